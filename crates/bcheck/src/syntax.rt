@@ -5,13 +5,18 @@ ghost use Rattle.bcheck.specs.Checks.{is_on_line};
 
 use crate::around::{Around, Region, opener_of};
 use crate::foreign::Foreign;
+use crate::kinds::Like::{
+    Assigns, Compares, Constant, Ended, Is, Name, Op, Operand, Operator, Relates, Type, Waits, Word,
+};
 use crate::kinds::{
     ANY, CLOSE_PAREN, COMMA, Like, OPEN_PAREN, STRING, closes_bracket, is_ended, is_operand,
 };
 use crate::spans::{Spans, is_joined, is_next_line, lexeme_at, place_of};
+use crate::syntax::Marking::{Before, First, Head, Here};
 use blang::Keyword;
 use blex::Lexeme;
-use bword::BinOp;
+use blex::Lexeme::{Assign, CloseBrace, CloseBracket, Colon, OpenBrace, OpenBracket, Semicolon};
+use bword::BinOp::{Div, Gt, Lt, Or, Rem, Sub};
 
 /// What a token with which no program goes on comes of.
 #[derive(Clone, Copy, PartialEq, Eq)]
@@ -271,8 +276,6 @@ pub(crate) enum Marking {
 #[derive(Clone, Copy)]
 struct Mistake(Option<Region>, If, [Like; 5], Syntax, Marking);
 
-const END: Like = Like::Is(Lexeme::End);
-
 const AUTO: Like = Like::Is(Lexeme::Keyword(Keyword::Auto));
 
 const EXTRN: Like = Like::Is(Lexeme::Keyword(Keyword::Extrn));
@@ -292,35 +295,9 @@ const RETURN: Like = Like::Is(Lexeme::Keyword(Keyword::Return));
 
 const ELSE: Like = Like::Is(Lexeme::Keyword(Keyword::Else));
 
-const DIV: Like = Like::Is(Lexeme::Operator(BinOp::Div));
-
-const REM: Like = Like::Is(Lexeme::Operator(BinOp::Rem));
-
-const LT: Like = Like::Is(Lexeme::Operator(BinOp::Lt));
-
-const SUB: Like = Like::Is(Lexeme::Operator(BinOp::Sub));
-
-const GT: Like = Like::Is(Lexeme::Operator(BinOp::Gt));
-
-const OR: Like = Like::Is(Lexeme::Operator(BinOp::Or));
-
-const EQUALS: Like = Like::Is(Lexeme::Assign(None));
-
-const SEMICOLON: Like = Like::Is(Lexeme::Semicolon);
-
-const COLON: Like = Like::Is(Lexeme::Colon);
-
 const SEMICOLON_COLON: Like = Like::Either(Lexeme::Semicolon, Lexeme::Colon);
 
-const OPEN_BRACKET: Like = Like::Is(Lexeme::OpenBracket);
-
-const CLOSE_BRACKET: Like = Like::Is(Lexeme::CloseBracket);
-
 const CLOSE_BRACKETS: Like = Like::Either(Lexeme::CloseParen, Lexeme::CloseBracket);
-
-const OPEN_BRACE: Like = Like::Is(Lexeme::OpenBrace);
-
-const CLOSE_BRACE: Like = Like::Is(Lexeme::CloseBrace);
 
 const STATEMENT_END: Like = Like::Either(Lexeme::Semicolon, Lexeme::CloseBrace);
 
@@ -335,144 +312,140 @@ const BODY: Option<Region> = Some(Region::Body);
 /// The end of the source, comments, and the first token of a definition.
 #[rattlefmt::skip]
 const BEGINNINGS: [Mistake; 11] = [
-    Mistake(None, If::ParenOpen, [ANY, ANY, ANY, END, ANY], Syntax::ParenOpen, Marking::Here),
-    Mistake(None, If::BraceOpen, [ANY, ANY, ANY, END, ANY], Syntax::BraceOpen, Marking::Here),
-    Mistake(None, If::Always, [ANY, ANY, ANY, END, ANY], Syntax::SourceEnds, Marking::Here),
-    Mistake(BODY, If::Divides, [ANY, Like::Ended, DIV, DIV, ANY], Syntax::SlashesDivide, Marking::Before),
-    Mistake(None, If::Joined, [ANY, ANY, DIV, DIV, ANY], Syntax::Slashes, Marking::Before),
-    Mistake(None, If::Always, [ANY, ANY, ANY, DIV, DIV], Syntax::Slashes, Marking::Here),
-    Mistake(START, If::Always, [ANY, ANY, CLOSE_BRACE, SEMICOLON, ANY], Syntax::BraceSemicolon, Marking::Here),
-    Mistake(START, If::Always, [ANY, ANY, ANY, CLOSE_BRACE, ANY], Syntax::BraceCloses, Marking::Here),
-    Mistake(START, If::Always, [ANY, ANY, ANY, Like::Keyword, ANY], Syntax::StatementOutside, Marking::Here),
-    Mistake(START, If::Always, [ANY, ANY, ANY, REM, Like::Name], Syntax::FileNamed, Marking::Here),
-    Mistake(START, If::Always, [ANY, ANY, ANY, ANY, ANY], Syntax::NameMissing, Marking::Here),
+    Mistake(None, If::ParenOpen, [ANY, ANY, ANY, Is(Lexeme::End), ANY], Syntax::ParenOpen, Here),
+    Mistake(None, If::BraceOpen, [ANY, ANY, ANY, Is(Lexeme::End), ANY], Syntax::BraceOpen, Here),
+    Mistake(None, If::Always, [ANY, ANY, ANY, Is(Lexeme::End), ANY], Syntax::SourceEnds, Here),
+    Mistake(BODY, If::Divides, [ANY, Ended, Op(Div), Op(Div), ANY], Syntax::SlashesDivide, Before),
+    Mistake(None, If::Joined, [ANY, ANY, Op(Div), Op(Div), ANY], Syntax::Slashes, Before),
+    Mistake(None, If::Always, [ANY, ANY, ANY, Op(Div), Op(Div)], Syntax::Slashes, Here),
+    Mistake(START, If::Always, [ANY, ANY, Is(CloseBrace), Is(Semicolon), ANY], Syntax::BraceSemicolon, Here),
+    Mistake(START, If::Always, [ANY, ANY, ANY, Is(CloseBrace), ANY], Syntax::BraceCloses, Here),
+    Mistake(START, If::Always, [ANY, ANY, ANY, Like::Keyword, ANY], Syntax::StatementOutside, Here),
+    Mistake(START, If::Always, [ANY, ANY, ANY, Op(Rem), Name], Syntax::FileNamed, Here),
+    Mistake(START, If::Always, [ANY, ANY, ANY, ANY, ANY], Syntax::NameMissing, Here),
 ];
 
 /// Externals and the parameters of a function.
 #[rattlefmt::skip]
 const OUTSIDE: [Mistake; 20] = [
-    Mistake(EXTERNAL, If::Prototype, [Like::Type, ANY, Like::Name, OPEN_PAREN, ANY], Syntax::Prototype, Marking::First),
-    Mistake(HEADER, If::Prototype, [ANY, ANY, Like::Type, Like::Name, ANY], Syntax::Prototype, Marking::Before),
-    Mistake(EXTERNAL, If::Always, [Like::Type, ANY, ANY, ANY, ANY], Syntax::TypeFirst, Marking::First),
-    Mistake(EXTERNAL, If::Second, [ANY, ANY, Like::Name, COLON, ANY], Syntax::LabelOutside, Marking::First),
-    Mistake(EXTERNAL, If::NextLine, [ANY, ANY, Like::Ended, Like::Name, ANY], Syntax::SemicolonMissing, Marking::Here),
-    Mistake(EXTERNAL, If::Always, [ANY, CLOSE_BRACKET, Like::Name, OPEN_PAREN, ANY], Syntax::SemicolonBefore,
-        Marking::Before),
-    Mistake(EXTERNAL, If::Always, [ANY, ANY, Like::Name, OPEN_PAREN, ANY], Syntax::TypeFirst, Marking::First),
-    Mistake(EXTERNAL, If::Always, [ANY, Like::Name, Like::Name, Like::Name, ANY], Syntax::TypeFirst, Marking::First),
-    Mistake(EXTERNAL, If::Always, [ANY, ANY, ANY, Like::Assigns, ANY], Syntax::EqualsOutside, Marking::Here),
-    Mistake(EXTERNAL, If::Always, [ANY, ANY, ANY, SUB, ANY], Syntax::SignOutside, Marking::Here),
-    Mistake(EXTERNAL, If::Always, [ANY, ANY, CLOSE_BRACKET, OPEN_BRACKET, ANY], Syntax::TwoSizes, Marking::Here),
-    Mistake(EXTERNAL, If::Second, [ANY, ANY, Like::Name, OPEN_BRACE, ANY], Syntax::HeadParens, Marking::Here),
-    Mistake(EXTERNAL, If::Always, [ANY, ANY, ANY, OPEN_BRACE, ANY], Syntax::BracesOutside, Marking::Here),
-    Mistake(HEADER, If::Always, [ANY, ANY, Like::Name, Like::Name, ANY], Syntax::TypeParameter, Marking::Before),
-    Mistake(HEADER, If::Always, [ANY, ANY, ANY, Like::Keyword, ANY], Syntax::TypeParameter, Marking::Here),
-    Mistake(HEADER, If::Always, [ANY, ANY, Like::Name, OPEN_BRACKET, ANY], Syntax::VectorParameter, Marking::Here),
-    Mistake(HEADER, If::Always, [ANY, ANY, Like::Name, SEMICOLON, Like::Name], Syntax::ParameterComma, Marking::Here),
-    Mistake(HEADER, If::Always, [ANY, ANY, ANY, Like::Constant, ANY], Syntax::CallOutside, Marking::Here),
-    Mistake(HEADER, If::Always, [ANY, ANY, ANY, STRING, ANY], Syntax::CallOutside, Marking::Here),
-    Mistake(HEADER, If::Always, [ANY, ANY, Like::Name, OPEN_PAREN, ANY], Syntax::CallOutside, Marking::Here),
+    Mistake(EXTERNAL, If::Prototype, [Type, ANY, Name, OPEN_PAREN, ANY], Syntax::Prototype, First),
+    Mistake(HEADER, If::Prototype, [ANY, ANY, Type, Name, ANY], Syntax::Prototype, Before),
+    Mistake(EXTERNAL, If::Always, [Type, ANY, ANY, ANY, ANY], Syntax::TypeFirst, First),
+    Mistake(EXTERNAL, If::Second, [ANY, ANY, Name, Is(Colon), ANY], Syntax::LabelOutside, First),
+    Mistake(EXTERNAL, If::NextLine, [ANY, ANY, Ended, Name, ANY], Syntax::SemicolonMissing, Here),
+    Mistake(EXTERNAL, If::Always, [ANY, Is(CloseBracket), Name, OPEN_PAREN, ANY], Syntax::SemicolonBefore, Before),
+    Mistake(EXTERNAL, If::Always, [ANY, ANY, Name, OPEN_PAREN, ANY], Syntax::TypeFirst, First),
+    Mistake(EXTERNAL, If::Always, [ANY, Name, Name, Name, ANY], Syntax::TypeFirst, First),
+    Mistake(EXTERNAL, If::Always, [ANY, ANY, ANY, Assigns, ANY], Syntax::EqualsOutside, Here),
+    Mistake(EXTERNAL, If::Always, [ANY, ANY, ANY, Op(Sub), ANY], Syntax::SignOutside, Here),
+    Mistake(EXTERNAL, If::Always, [ANY, ANY, Is(CloseBracket), Is(OpenBracket), ANY], Syntax::TwoSizes, Here),
+    Mistake(EXTERNAL, If::Second, [ANY, ANY, Name, Is(OpenBrace), ANY], Syntax::HeadParens, Here),
+    Mistake(EXTERNAL, If::Always, [ANY, ANY, ANY, Is(OpenBrace), ANY], Syntax::BracesOutside, Here),
+    Mistake(HEADER, If::Always, [ANY, ANY, Name, Name, ANY], Syntax::TypeParameter, Before),
+    Mistake(HEADER, If::Always, [ANY, ANY, ANY, Like::Keyword, ANY], Syntax::TypeParameter, Here),
+    Mistake(HEADER, If::Always, [ANY, ANY, Name, Is(OpenBracket), ANY], Syntax::VectorParameter, Here),
+    Mistake(HEADER, If::Always, [ANY, ANY, Name, Is(Semicolon), Name], Syntax::ParameterComma, Here),
+    Mistake(HEADER, If::Always, [ANY, ANY, ANY, Constant, ANY], Syntax::CallOutside, Here),
+    Mistake(HEADER, If::Always, [ANY, ANY, ANY, STRING, ANY], Syntax::CallOutside, Here),
+    Mistake(HEADER, If::Always, [ANY, ANY, Name, OPEN_PAREN, ANY], Syntax::CallOutside, Here),
 ];
 
 /// Declarations in a function.
 #[rattlefmt::skip]
 const DECLARATIONS: [Mistake; 7] = [
-    Mistake(BODY, If::Always, [AUTO, ANY, Like::Type, Like::Name, ANY], Syntax::TypeInside, Marking::Before),
-    Mistake(BODY, If::Always, [AUTO, ANY, Like::Name, EQUALS, ANY], Syntax::AutoValue, Marking::Here),
-    Mistake(BODY, If::Always, [AUTO, ANY, Like::Name, OPEN_BRACKET, ANY], Syntax::AutoBrackets, Marking::Here),
-    Mistake(BODY, If::NextLine, [AUTO, ANY, Like::Operand, ANY, ANY], Syntax::SemicolonMissing, Marking::Here),
-    Mistake(BODY, If::Always, [AUTO, ANY, ANY, ANY, ANY], Syntax::AutoList, Marking::Here),
-    Mistake(BODY, If::NextLine, [EXTRN, ANY, Like::Name, ANY, ANY], Syntax::SemicolonMissing, Marking::Here),
-    Mistake(BODY, If::Always, [EXTRN, ANY, ANY, ANY, ANY], Syntax::ExtrnList, Marking::Here),
+    Mistake(BODY, If::Always, [AUTO, ANY, Type, Name, ANY], Syntax::TypeInside, Before),
+    Mistake(BODY, If::Always, [AUTO, ANY, Name, Is(Assign(None)), ANY], Syntax::AutoValue, Here),
+    Mistake(BODY, If::Always, [AUTO, ANY, Name, Is(OpenBracket), ANY], Syntax::AutoBrackets, Here),
+    Mistake(BODY, If::NextLine, [AUTO, ANY, Operand, ANY, ANY], Syntax::SemicolonMissing, Here),
+    Mistake(BODY, If::Always, [AUTO, ANY, ANY, ANY, ANY], Syntax::AutoList, Here),
+    Mistake(BODY, If::NextLine, [EXTRN, ANY, Name, ANY, ANY], Syntax::SemicolonMissing, Here),
+    Mistake(BODY, If::Always, [EXTRN, ANY, ANY, ANY, ANY], Syntax::ExtrnList, Here),
 ];
 
 /// Words, with what has to come after them.
 #[rattlefmt::skip]
 const WORDS: [Mistake; 18] = [
-    Mistake(BODY, If::For, [ANY, ANY, ANY, ANY, ANY], Syntax::For, Marking::Head),
-    Mistake(BODY, If::Always, [Like::Word("for"), ANY, CLOSE_PAREN, ANY, ANY], Syntax::For, Marking::First),
-    Mistake(BODY, If::Always, [ANY, ANY, Like::Word("for"), Like::Name, ANY], Syntax::ForEach, Marking::Before),
-    Mistake(BODY, If::Always, [ANY, CLOSE_PAREN, Like::Word("do"), ANY, ANY], Syntax::DoAfter, Marking::Before),
-    Mistake(BODY, If::Always, [ANY, ANY, Like::Word("do"), ANY, ANY], Syntax::Do, Marking::Before),
-    Mistake(BODY, If::Always, [ANY, ANY, Like::Word("then"), ANY, ANY], Syntax::Then, Marking::Before),
-    Mistake(BODY, If::Prototype, [ANY, ANY, Like::Type, Like::Name, OPEN_PAREN], Syntax::Prototype,
-        Marking::Before),
-    Mistake(BODY, If::Always, [ANY, ANY, Like::Type, Like::Name, ANY], Syntax::TypeInside, Marking::Before),
-    Mistake(BODY, If::Always, [ANY, ANY, CASE, SUB, ANY], Syntax::CaseSign, Marking::Here),
-    Mistake(BODY, If::Always, [ANY, ANY, CASE, STRING, ANY], Syntax::CaseString, Marking::Here),
-    Mistake(BODY, If::Always, [ANY, ANY, CASE, ANY, ANY], Syntax::CaseValue, Marking::Here),
-    Mistake(BODY, If::Always, [ANY, CASE, Like::Constant, COMMA, ANY], Syntax::CaseList, Marking::Here),
-    Mistake(BODY, If::Always, [ANY, CASE, Like::Constant, SUB, Like::Constant], Syntax::CaseRange, Marking::Here),
-    Mistake(BODY, If::Always, [ANY, CASE, Like::Constant, ANY, ANY], Syntax::CaseColon, Marking::Here),
-    Mistake(BODY, If::Joined, [ANY, Like::Constant, COLON, COLON, ANY], Syntax::CaseRange, Marking::Before),
-    Mistake(BODY, If::Second, [ANY, COLON, Like::Constant, COLON, ANY], Syntax::CaseRange, Marking::Here),
-    Mistake(BODY, If::Always, [ANY, ANY, IF_WHILE, ANY, ANY], Syntax::Condition, Marking::Here),
-    Mistake(BODY, If::Always, [ANY, ANY, RETURN, ANY, ANY], Syntax::ReturnValue, Marking::Here),
+    Mistake(BODY, If::For, [ANY, ANY, ANY, ANY, ANY], Syntax::For, Head),
+    Mistake(BODY, If::Always, [Word("for"), ANY, CLOSE_PAREN, ANY, ANY], Syntax::For, First),
+    Mistake(BODY, If::Always, [ANY, ANY, Word("for"), Name, ANY], Syntax::ForEach, Before),
+    Mistake(BODY, If::Always, [ANY, CLOSE_PAREN, Word("do"), ANY, ANY], Syntax::DoAfter, Before),
+    Mistake(BODY, If::Always, [ANY, ANY, Word("do"), ANY, ANY], Syntax::Do, Before),
+    Mistake(BODY, If::Always, [ANY, ANY, Word("then"), ANY, ANY], Syntax::Then, Before),
+    Mistake(BODY, If::Prototype, [ANY, ANY, Type, Name, OPEN_PAREN], Syntax::Prototype, Before),
+    Mistake(BODY, If::Always, [ANY, ANY, Type, Name, ANY], Syntax::TypeInside, Before),
+    Mistake(BODY, If::Always, [ANY, ANY, CASE, Op(Sub), ANY], Syntax::CaseSign, Here),
+    Mistake(BODY, If::Always, [ANY, ANY, CASE, STRING, ANY], Syntax::CaseString, Here),
+    Mistake(BODY, If::Always, [ANY, ANY, CASE, ANY, ANY], Syntax::CaseValue, Here),
+    Mistake(BODY, If::Always, [ANY, CASE, Constant, COMMA, ANY], Syntax::CaseList, Here),
+    Mistake(BODY, If::Always, [ANY, CASE, Constant, Op(Sub), Constant], Syntax::CaseRange, Here),
+    Mistake(BODY, If::Always, [ANY, CASE, Constant, ANY, ANY], Syntax::CaseColon, Here),
+    Mistake(BODY, If::Joined, [ANY, Constant, Is(Colon), Is(Colon), ANY], Syntax::CaseRange, Before),
+    Mistake(BODY, If::Second, [ANY, Is(Colon), Constant, Is(Colon), ANY], Syntax::CaseRange, Here),
+    Mistake(BODY, If::Always, [ANY, ANY, IF_WHILE, ANY, ANY], Syntax::Condition, Here),
+    Mistake(BODY, If::Always, [ANY, ANY, RETURN, ANY, ANY], Syntax::ReturnValue, Here),
 ];
 
 /// Operators and operands, and brackets around them.
 #[rattlefmt::skip]
 const OPERANDS: [Mistake; 27] = [
-    Mistake(BODY, If::Always, [ANY, ANY, OR, OR, ANY], Syntax::OrOr, Marking::Here),
-    Mistake(BODY, If::Always, [IF_WHILE, ANY, CLOSE_PAREN, COLON, ANY], Syntax::HeadColon, Marking::Here),
-    Mistake(BODY, If::Always, [ELSE, ANY, CLOSE_PAREN, COLON, ANY], Syntax::HeadColon, Marking::Here),
-    Mistake(BODY, If::Always, [ANY, ANY, ELSE, COLON, ANY], Syntax::HeadColon, Marking::Here),
-    Mistake(BODY, If::LineStart, [Like::Name, ANY, CLOSE_PAREN, COLON, ANY], Syntax::HeadColon, Marking::Here),
-    Mistake(BODY, If::Joined, [ANY, ANY, COLON, Like::Assigns, ANY], Syntax::ColonEquals, Marking::Before),
-    Mistake(BODY, If::Joined, [ANY, ANY, LT, GT, ANY], Syntax::LessGreater, Marking::Before),
-    Mistake(BODY, If::Always, [ANY, ANY, Like::Compares, Like::Assigns, ANY], Syntax::CompareSigns, Marking::Before),
-    Mistake(BODY, If::Always, [ANY, ANY, Like::Relates, Like::Assigns, ANY], Syntax::CompareSigns, Marking::Before),
-    Mistake(BODY, If::Always, [ANY, ANY, Like::Operator, Like::Assigns, ANY], Syntax::EqualsAfter, Marking::Here),
-    Mistake(BODY, If::Always, [ANY, ANY, EQUALS, OPEN_BRACKET, ANY], Syntax::ListAssigned, Marking::Here),
-    Mistake(BODY, If::Always, [ANY, ANY, EQUALS, OPEN_BRACE, ANY], Syntax::ListAssigned, Marking::Here),
-    Mistake(BODY, If::Joined, [ANY, ANY, SUB, GT, ANY], Syntax::Arrow, Marking::Before),
-    Mistake(BODY, If::Backslash, [ANY, ANY, STRING, ANY, ANY], Syntax::QuoteEscaped, Marking::Here),
-    Mistake(BODY, If::Joined, [ANY, ANY, STRING, Like::Name, ANY], Syntax::QuoteInside, Marking::Here),
-    Mistake(BODY, If::Joined, [ANY, ANY, Like::Constant, Like::Name, ANY], Syntax::NumberName, Marking::Here),
-    Mistake(BODY, If::Always, [ANY, ANY, Like::Waits, Like::Closes, ANY], Syntax::OperandMissing, Marking::Here),
-    Mistake(BODY, If::Always, [ANY, ANY, Like::Waits, Like::Operator, ANY], Syntax::OperandMissing, Marking::Here),
-    Mistake(BODY, If::Always, [ANY, ANY, Like::Waits, Like::Assigns, ANY], Syntax::OperandMissing, Marking::Here),
-    Mistake(BODY, If::Always, [ANY, ANY, Like::Waits, Like::Keyword, ANY], Syntax::OperandMissing, Marking::Here),
-    Mistake(BODY, If::ParenOpen, [ANY, ANY, Like::Ended, OPEN_BRACE, ANY], Syntax::ParenOpen, Marking::Here),
-    Mistake(BODY, If::Asked, [ANY, ANY, Like::Ended, Like::Closes, ANY], Syntax::ColonMissing, Marking::Here),
-    Mistake(BODY, If::Indexed, [ANY, ANY, Like::Ended, COMMA, Like::Operand], Syntax::TwoIndices, Marking::Here),
-    Mistake(BODY, If::Returned, [ANY, ANY, Like::Ended, COMMA, ANY], Syntax::ReturnTwo, Marking::Here),
-    Mistake(BODY, If::OtherBracket, [ANY, ANY, Like::Ended, Like::Closes, ANY], Syntax::OtherBracket, Marking::Here),
-    Mistake(BODY, If::BraceMeant, [ANY, ANY, STATEMENT_END, CLOSE_BRACKETS, ANY], Syntax::OtherBracket, Marking::Here),
-    Mistake(BODY, If::ParenOpen, [ANY, ANY, Like::Ended, Like::Closes, ANY], Syntax::ParenOpen, Marking::Here),
+    Mistake(BODY, If::Always, [ANY, ANY, Op(Or), Op(Or), ANY], Syntax::OrOr, Here),
+    Mistake(BODY, If::Always, [IF_WHILE, ANY, CLOSE_PAREN, Is(Colon), ANY], Syntax::HeadColon, Here),
+    Mistake(BODY, If::Always, [ELSE, ANY, CLOSE_PAREN, Is(Colon), ANY], Syntax::HeadColon, Here),
+    Mistake(BODY, If::Always, [ANY, ANY, ELSE, Is(Colon), ANY], Syntax::HeadColon, Here),
+    Mistake(BODY, If::LineStart, [Name, ANY, CLOSE_PAREN, Is(Colon), ANY], Syntax::HeadColon, Here),
+    Mistake(BODY, If::Joined, [ANY, ANY, Is(Colon), Assigns, ANY], Syntax::ColonEquals, Before),
+    Mistake(BODY, If::Joined, [ANY, ANY, Op(Lt), Op(Gt), ANY], Syntax::LessGreater, Before),
+    Mistake(BODY, If::Always, [ANY, ANY, Compares, Assigns, ANY], Syntax::CompareSigns, Before),
+    Mistake(BODY, If::Always, [ANY, ANY, Relates, Assigns, ANY], Syntax::CompareSigns, Before),
+    Mistake(BODY, If::Always, [ANY, ANY, Operator, Assigns, ANY], Syntax::EqualsAfter, Here),
+    Mistake(BODY, If::Always, [ANY, ANY, Is(Assign(None)), Is(OpenBracket), ANY], Syntax::ListAssigned, Here),
+    Mistake(BODY, If::Always, [ANY, ANY, Is(Assign(None)), Is(OpenBrace), ANY], Syntax::ListAssigned, Here),
+    Mistake(BODY, If::Joined, [ANY, ANY, Op(Sub), Op(Gt), ANY], Syntax::Arrow, Before),
+    Mistake(BODY, If::Backslash, [ANY, ANY, STRING, ANY, ANY], Syntax::QuoteEscaped, Here),
+    Mistake(BODY, If::Joined, [ANY, ANY, STRING, Name, ANY], Syntax::QuoteInside, Here),
+    Mistake(BODY, If::Joined, [ANY, ANY, Constant, Name, ANY], Syntax::NumberName, Here),
+    Mistake(BODY, If::Always, [ANY, ANY, Waits, Like::Closes, ANY], Syntax::OperandMissing, Here),
+    Mistake(BODY, If::Always, [ANY, ANY, Waits, Operator, ANY], Syntax::OperandMissing, Here),
+    Mistake(BODY, If::Always, [ANY, ANY, Waits, Assigns, ANY], Syntax::OperandMissing, Here),
+    Mistake(BODY, If::Always, [ANY, ANY, Waits, Like::Keyword, ANY], Syntax::OperandMissing, Here),
+    Mistake(BODY, If::ParenOpen, [ANY, ANY, Ended, Is(OpenBrace), ANY], Syntax::ParenOpen, Here),
+    Mistake(BODY, If::Asked, [ANY, ANY, Ended, Like::Closes, ANY], Syntax::ColonMissing, Here),
+    Mistake(BODY, If::Indexed, [ANY, ANY, Ended, COMMA, Operand], Syntax::TwoIndices, Here),
+    Mistake(BODY, If::Returned, [ANY, ANY, Ended, COMMA, ANY], Syntax::ReturnTwo, Here),
+    Mistake(BODY, If::OtherBracket, [ANY, ANY, Ended, Like::Closes, ANY], Syntax::OtherBracket, Here),
+    Mistake(BODY, If::BraceMeant, [ANY, ANY, STATEMENT_END, CLOSE_BRACKETS, ANY], Syntax::OtherBracket, Here),
+    Mistake(BODY, If::ParenOpen, [ANY, ANY, Ended, Like::Closes, ANY], Syntax::ParenOpen, Here),
 ];
 
 /// Statements that begin or end at the wrong place.
 #[rattlefmt::skip]
 const STATEMENTS: [Mistake; 7] = [
-    Mistake(BODY, If::ParenOpen, [ANY, ANY, Like::Ended, Like::Keyword, ANY], Syntax::ParenOpen, Marking::Here),
-    Mistake(BODY, If::Always, [SWITCH, ANY, Like::Ended, ANY, ANY], Syntax::SwitchBraces, Marking::Here),
-    Mistake(BODY, If::IfBrace, [ANY, ANY, STATEMENT_END, ELSE, ANY], Syntax::ElseInBraces, Marking::Here),
-    Mistake(BODY, If::Always, [ANY, ANY, STATEMENT_END, ELSE, ANY], Syntax::ElseAlone, Marking::Here),
-    Mistake(BODY, If::Else, [ANY, ANY, CLOSE_PAREN, ANY, ANY], Syntax::ElseCondition, Marking::Here),
-    Mistake(BODY, If::LineStart, [Like::Name, ANY, CLOSE_PAREN, OPEN_BRACE, ANY], Syntax::FunctionInside,
-        Marking::First),
-    Mistake(BODY, If::Always, [Like::Name, ANY, CLOSE_PAREN, OPEN_BRACE, ANY], Syntax::CallBody, Marking::First),
+    Mistake(BODY, If::ParenOpen, [ANY, ANY, Ended, Like::Keyword, ANY], Syntax::ParenOpen, Here),
+    Mistake(BODY, If::Always, [SWITCH, ANY, Ended, ANY, ANY], Syntax::SwitchBraces, Here),
+    Mistake(BODY, If::IfBrace, [ANY, ANY, STATEMENT_END, ELSE, ANY], Syntax::ElseInBraces, Here),
+    Mistake(BODY, If::Always, [ANY, ANY, STATEMENT_END, ELSE, ANY], Syntax::ElseAlone, Here),
+    Mistake(BODY, If::Else, [ANY, ANY, CLOSE_PAREN, ANY, ANY], Syntax::ElseCondition, Here),
+    Mistake(BODY, If::LineStart, [Name, ANY, CLOSE_PAREN, Is(OpenBrace), ANY], Syntax::FunctionInside, First),
+    Mistake(BODY, If::Always, [Name, ANY, CLOSE_PAREN, Is(OpenBrace), ANY], Syntax::CallBody, First),
 ];
 
 /// The rest, where what comes after an operand is no part of its expression.
 #[rattlefmt::skip]
 const REST: [Mistake; 14] = [
-    Mistake(BODY, If::Always, [ANY, ANY, ANY, Like::Assigns, ANY], Syntax::AssignLeft, Marking::Here),
-    Mistake(BODY, If::Assigned, [ANY, ANY, Like::Name, COMMA, Like::Name], Syntax::TwoAssigned, Marking::Here),
-    Mistake(BODY, If::Unopened, [ANY, ANY, CLOSE_PAREN, COMMA, ANY], Syntax::ParenEarly, Marking::Before),
-    Mistake(BODY, If::Tight, [ANY, ANY, Like::Constant, COMMA, Like::Constant], Syntax::Thousands, Marking::Here),
-    Mistake(BODY, If::Always, [Like::Name, ANY, Like::Constant, COMMA, Like::Constant], Syntax::ListAssigned,
-        Marking::Here),
-    Mistake(BODY, If::Always, [ANY, ANY, ANY, COMMA, ANY], Syntax::CommaAlone, Marking::Here),
-    Mistake(BODY, If::Always, [ANY, ANY, ANY, CLOSE_BRACKETS, ANY], Syntax::Unopened, Marking::Here),
-    Mistake(BODY, If::Always, [ANY, ANY, SEMICOLON_COLON, CLOSE_BRACE, ANY], Syntax::NoStatement, Marking::Here),
-    Mistake(BODY, If::NextLine, [ANY, ANY, Like::Ended, ANY, ANY], Syntax::SemicolonMissing, Marking::Here),
-    Mistake(BODY, If::Always, [ANY, ANY, Like::Ended, CLOSE_BRACE, ANY], Syntax::SemicolonBefore, Marking::Here),
-    Mistake(BODY, If::Second, [ANY, ANY, Like::Name, Like::Operand, ANY], Syntax::CallParens, Marking::Here),
-    Mistake(BODY, If::Always, [ANY, ANY, Like::Ended, Like::Operand, ANY], Syntax::TwoOperands, Marking::Here),
-    Mistake(BODY, If::Always, [ANY, ANY, Like::Ended, Like::Keyword, ANY], Syntax::TwoOperands, Marking::Here),
-    Mistake(BODY, If::Always, [ANY, ANY, Like::Ended, OPEN_BRACE, ANY], Syntax::TwoOperands, Marking::Here),
+    Mistake(BODY, If::Always, [ANY, ANY, ANY, Assigns, ANY], Syntax::AssignLeft, Here),
+    Mistake(BODY, If::Assigned, [ANY, ANY, Name, COMMA, Name], Syntax::TwoAssigned, Here),
+    Mistake(BODY, If::Unopened, [ANY, ANY, CLOSE_PAREN, COMMA, ANY], Syntax::ParenEarly, Before),
+    Mistake(BODY, If::Tight, [ANY, ANY, Constant, COMMA, Constant], Syntax::Thousands, Here),
+    Mistake(BODY, If::Always, [Name, ANY, Constant, COMMA, Constant], Syntax::ListAssigned, Here),
+    Mistake(BODY, If::Always, [ANY, ANY, ANY, COMMA, ANY], Syntax::CommaAlone, Here),
+    Mistake(BODY, If::Always, [ANY, ANY, ANY, CLOSE_BRACKETS, ANY], Syntax::Unopened, Here),
+    Mistake(BODY, If::Always, [ANY, ANY, SEMICOLON_COLON, Is(CloseBrace), ANY], Syntax::NoStatement, Here),
+    Mistake(BODY, If::NextLine, [ANY, ANY, Ended, ANY, ANY], Syntax::SemicolonMissing, Here),
+    Mistake(BODY, If::Always, [ANY, ANY, Ended, Is(CloseBrace), ANY], Syntax::SemicolonBefore, Here),
+    Mistake(BODY, If::Second, [ANY, ANY, Name, Operand, ANY], Syntax::CallParens, Here),
+    Mistake(BODY, If::Always, [ANY, ANY, Ended, Operand, ANY], Syntax::TwoOperands, Here),
+    Mistake(BODY, If::Always, [ANY, ANY, Ended, Like::Keyword, ANY], Syntax::TwoOperands, Here),
+    Mistake(BODY, If::Always, [ANY, ANY, Ended, Is(OpenBrace), ANY], Syntax::TwoOperands, Here),
 ];
 
 /// What is said of a token with which no program goes on, and which token is marked: the first row that fits tells it.
@@ -565,12 +538,12 @@ fn holds(condition: If, source: &[u8], spans: &Spans, around: &Around) -> bool {
         If::Else => is_after(spans, before, &ELSE),
         If::Tight => is_joined(spans, before) && is_joined(spans, around.token),
         If::Indexed => around.is_in(spans, Lexeme::OpenBracket)
-            && CLOSE_BRACKET.fits(&lexeme_at(spans, around.token.wrapping_add(2))),
+            && Is(Lexeme::CloseBracket).fits(&lexeme_at(spans, around.token.wrapping_add(2))),
         If::Returned => around.is_in(spans, Lexeme::OpenParen)
             && RETURN.fits(&lexeme_at(spans, around.head())),
         If::Unopened => is_unopened(spans, around.token),
         If::Assigned => around.own == before
-            && EQUALS.fits(&lexeme_at(spans, around.token.wrapping_add(2))),
+            && Is(Lexeme::Assign(None)).fits(&lexeme_at(spans, around.token.wrapping_add(2))),
     }
 }
 
