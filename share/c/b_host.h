@@ -44,7 +44,7 @@ enum { B_HOST_ASKS = 1, B_HOST_WAITS = 2, B_HOST_CALLS = 3, B_HOST_CALLED = 4, B
 static inline uint8_t b_host_words(struct b_session *session, uint16_t *queue) {
     struct b_symbol symbol;
     uint8_t status = b_find(session, (const uint8_t *)"hostq", 5, &symbol);
-    if (status == B_REFUSED || (status == B_DONE && symbol.kind != B_VECTOR))
+    if (status == B_REFUSED || (status == B_DONE && (symbol.kind != B_VECTOR || symbol.words != B_HOST_ANSWER + 2)))
         return B_NO_HOST;
     *queue = (uint16_t)(symbol.address + 1);
     return status;
@@ -151,24 +151,25 @@ static inline uint8_t b_host_read(struct b_session *session, const struct b_talk
  * call, B_NO_HOST without lib/host.b, B_UNKNOWN where it asks for a function that isn't there, or what a function gave
  * other than 0. The program gets its input by a byte at a time, and `*e` at its end. */
 static inline int b_serve(struct b_session *session, const struct b_server *server, uint8_t *value) {
-    uint64_t steps = server->steps;
-    struct b_place before, after;
-    uint16_t queue, state;
+    uint64_t last = 0;
+    struct b_place place;
+    uint16_t queue = 0, state;
     int told = b_host_words(session, &queue);
     if (told == B_DONE)
-        told = b_place(session, &before);
+        told = b_place(session, &place);
+    if (told == B_DONE)
+        last = server->steps < UINT64_MAX - place.steps ? place.steps + server->steps : UINT64_MAX;
     while (told == B_DONE) {
         uint8_t status;
         if (server->talk->goes_on != 0 && !server->talk->goes_on(server->talk->own))
             return B_LIMIT;
-        status = b_continue(session, steps, value);
+        told = b_place(session, &place); /* a function of the host may have made steps, too */
+        if (told != B_DONE)
+            return told;
+        status = b_continue(session, place.steps < last ? last - place.steps : 0, value);
         told = b_write_out(session, server->talk);
-        if (told == B_DONE)
-            told = b_place(session, &after);
         if (told != B_DONE || (status != B_FAILED && status != B_HAS_OUTPUT))
             return told != B_DONE ? told : status;
-        steps -= after.steps - before.steps;
-        before = after;
         if (status == B_HAS_OUTPUT)
             continue;
         told = b_word(session, queue, &state);
@@ -191,7 +192,7 @@ static inline int b_serve(struct b_session *session, const struct b_server *serv
 static inline int b_call(struct b_session *session, const struct b_server *server, const char *name,
                          const int16_t words[5], int16_t *answer, uint8_t *value) {
     struct b_symbol symbol;
-    uint16_t queue, state = 0, given[B_HOST_ANSWER], word = 0;
+    uint16_t queue = 0, state = 0, given[B_HOST_ANSWER], word = 0;
     size_t at;
     int told = b_host_words(session, &queue);
     if (told == B_DONE)

@@ -76,8 +76,19 @@ static int sometimes(void *own, struct b_session *session, const int16_t words[5
     return ++o->failed < 3 ? 200 : 0;
 }
 
+/* Makes more steps than those who called it may. */
+static int takes_long(void *own, struct b_session *session, const int16_t words[5], int16_t *answer) {
+    struct b_server other = *serving;
+    int16_t given[5] = {1000};
+    uint8_t value;
+    (void)own;
+    (void)words;
+    other.steps = 1000000;
+    return b_call(session, &other, "some", given, answer, &value) == B_SERVES ? 0 : 201;
+}
+
 static const struct b_service services[] = {
-    {"add", add}, {"capitals", capitals}, {"up", up}, {"sometimes", sometimes}};
+    {"add", add}, {"capitals", capitals}, {"up", up}, {"sometimes", sometimes}, {"long", takes_long}};
 
 static int down(int n) {
     return n < 1 ? 0 : 2 * down(n - 1) + n;
@@ -98,7 +109,7 @@ int main(int count, char **words) {
     struct b_session session = B_NO_SESSION;
     struct own own = {"HAL", {0}, 0, 0, 0};
     struct b_talk talk = {read_some, write_some, 0, &own};
-    struct b_server server = {services, 4, &talk, &own, 10000000};
+    struct b_server server = {services, 5, &talk, &own, 10000000};
     struct b_written written;
     int16_t given[5] = {0}, answer = 0;
     int n;
@@ -106,6 +117,8 @@ int main(int count, char **words) {
     snprintf(source, sizeof source, "%s\n%s",
              "down(n) return(n < 1 ? 0 : host(\"up\", n - 1) + n);\n"
              "ends(n) exit(n);\n"
+             "twice() { host(\"long\"); host(\"long\"); while(1) ; }\n"
+             "some(n) while(n--) ;\n"
              "main() { auto v 20, c;\n"
              "while((c = getchar()) != '*e') putchar(host(\"add\", c, 1, -2, 2));\n"
              "printn(host(\"capitals\", \"odd\", v), 10); putchar(char(v, 2));\n"
@@ -126,12 +139,24 @@ int main(int count, char **words) {
         expect("its value", answer, down(n));
     }
     expect("no such function", b_call(&session, &server, "up", given, &answer, &own.value), B_UNKNOWN);
+    server.steps = 2000;
+    expect("a limit", b_call(&session, &server, "twice", given, &answer, &own.value), B_LIMIT);
+    b_end(&session);
+    expect("start anew", b_start(&session, 0, 0), B_DONE);
+    server.steps = 10000000;
+    own.failed = 5;
+    own.written = 0;
+    expect("serves anew", b_serve(&session, &server, &own.value), B_SERVES);
     given[0] = 9;
     expect("an end", b_call(&session, &server, "ends", given, &answer, &own.value), B_DONE);
     b_free(&session);
     expect("load without", b_load((const uint8_t *)"main() ;", 8, 1, &session), B_DONE);
     expect("start without", b_start(&session, 0, 0), B_DONE);
     expect("no host", b_serve(&session, &server, &own.value), B_NO_HOST);
+    b_free(&session);
+    expect("load another", b_load((const uint8_t *)"hostq[1]; main() ;", 18, 1, &session), B_DONE);
+    expect("start another", b_start(&session, 0, 0), B_DONE);
+    expect("another vector", b_serve(&session, &server, &own.value), B_NO_HOST);
     b_free(&session);
     free(library);
     printf("try_host: %d rows were tried\n", tried);

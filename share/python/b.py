@@ -413,6 +413,7 @@ _KINDS = ("", "function", "simple", "vector", "parameter", "automatic", "automat
 _FIRST = 7  # the address of the first definition
 _ASKS, _CALLS, _WAITS = 1, 3, (2, 4)  # what lib/host.b says in the first word of its vector
 _ANSWER = 7  # the word of it with an answer, after a name and up to five words
+_QUEUE = 9  # how many words it takes, with the one of its address
 _BUSY = "this session is in a call of another thread"
 _UNBEGUN = b"trap st\n"  # where the memory has no room for the frame of `main`
 _OF = ("", "operands", "pages")
@@ -735,7 +736,7 @@ class Session:
         last = self.place().steps + _steps(steps)
         while True:
             try:
-                end = self._slice(min(last - self.place().steps, _SLICE))
+                end = self._slice(max(0, min(last - self.place().steps, _SLICE)))
             finally:
                 output = self.output() if takes else b""
                 if output:
@@ -798,7 +799,7 @@ class Session:
     def _queue(self) -> int:
         """The address of the words by which program and host talk."""
         queue = self.find("hostq")
-        if queue is None or queue.kind != "vector":
+        if queue is None or queue.kind != "vector" or queue.words != _QUEUE:
             raise ValueError("the program has no lib/host.b")
         return queue.address + 1
 

@@ -125,6 +125,11 @@ def failures():
     it = session('main() while(1) host("x");')
     yield it.serve({"x": lambda: None}, steps=10_000).why, "limit"
     it.close()
+    it = session('some(n) { while(n--) ; return(7); } main() { host("x"); host("x"); while(1) ; }')
+    yield it.serve({"x": lambda: it.call("some", 1000)}, steps=2000).why, "limit"
+    yield it.serve({"x": lambda: it.call("some", 1000)}, steps=2000).why, "limit"
+    it = b.Session("hostq[1]; main() { extrn hostq; hostq[0] = 2; getchar(); }")
+    yield raised(it.serve), ValueError
 
 
 class Program:

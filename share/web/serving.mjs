@@ -4,6 +4,7 @@ import {bytesOf} from './b.mjs';
 
 const ASKS = 1, CALLS = 3, WAITS = [2, 4]; // what the program says in the first word
 const NAME = 1, FIRST = 2, ANSWER = 7, MOST = 5; // the words of a name, of the first argument and of an answer
+const QUEUE = 9; // how many words the vector takes, with the one of its address
 const END = 4; // the character `*e`
 const LOOKS = new Uint8Array([10]);
 
@@ -44,7 +45,7 @@ export class Serving {
 
   constructor(session, functions, input) {
     const queue = session.find('hostq');
-    if (queue?.kind !== 'vector') throw new Error('the program has no lib/host.b');
+    if (queue?.kind !== 'vector' || queue.words !== QUEUE) throw new Error('the program has no lib/host.b');
     this.#session = session;
     this.#functions = new Map(Object.entries(functions));
     this.#input = input;

@@ -425,11 +425,11 @@ class Session {
   }
 
   words(address, count) {
-    return Array.from({length: count}, (_, at) => this.word((address + at) % 65536));
+    return Array.from({length: count}, (_, at) => this.word((address + at) & 65535));
   }
 
   setWords(address, words) {
-    words.forEach((word, at) => this.setWord((address + at) % 65536, word & 65535));
+    words.forEach((word, at) => this.setWord((address + at) & 65535, word & 65535));
   }
 
   text(address, most = 32767) {
@@ -454,7 +454,7 @@ class Session {
     const pace = new Pace(), last = fewer(this.#made() + large('steps', steps), MOST);
     for (;;) {
       signal?.throwIfAborted();
-      const {end, failure} = pace.time(most => this.#slice(fewer(most, last - this.#made())));
+      const {end, failure} = pace.time(most => this.#slice(fewer(most, this.#upTo(last))));
       const bytes = this.output();
       if (bytes.length > 0) yield bytes;
       if (failure) throw failure;
@@ -514,6 +514,12 @@ class Session {
       kept.put(this.#sessions.bytes(room, count));
       if (count < ROOM) return kept.bytes();
     }
+  }
+
+  /** How many steps are left up to a last one, which a call from within may have passed. */
+  #upTo(last) {
+    const left = last - this.#made();
+    return left > 0n ? left : 0n;
   }
 
   #made() {
