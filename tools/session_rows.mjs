@@ -404,6 +404,16 @@ async function hosts({sessions, host, expect}) {
   it = load('some(n) { while(n--) ; return(7); } main() { host("x"); host("x"); while(1) ; }');
   const takesLong = {x: () => it.call('some', [1000])};
   expect('more steps in a call', await it.serve(takesLong, {steps: 2000}), ended('limit'));
+  it = load(`f(x) return(host("g", x) + 100); one(x) return(x + 1); sub() serve();
+    main() { printn(host("x", 5), 10); serve(); }`);
+  let tries = 0;
+  const g = x => { if (++tries === 1) throw new TypeError('no'); return x + 1; };
+  const within = {g, x: async x => 2 * (await it.call('f', [x]))};
+  expect('what it throws in a call', await kindOf(() => it.serve(within)), 'TypeError');
+  expect('a call before it goes on', await it.call('one', [7]), 8);
+  expect('it goes on', await it.serve(within), ended('serves'));
+  expect('with all calls', [tries, text(it.output())], [3, '212']);
+  expect('it waits in a call', (await thrown(() => it.call('sub'))).end, ended('serves'));
   expect('no host', await kindOf(() => sessions.load('main() ;').serve()), 'Error');
   expect('another vector', await kindOf(() => sessions.load('hostq[1]; main() ;').serve()), 'Error');
   it.free();

@@ -40,6 +40,11 @@ struct b_server {
 /* What a program says in the first word by which both talk, and where the others are. */
 enum { B_HOST_ASKS = 1, B_HOST_WAITS = 2, B_HOST_CALLS = 3, B_HOST_CALLED = 4, B_HOST_ANSWER = 7 };
 
+/* Whether it says one of the first two; after a call it adds B_HOST_CALLED to it. */
+static inline int b_host_says(uint16_t state, uint16_t which) {
+    return state == which || state == which + B_HOST_CALLED;
+}
+
 /* The words by which both talk. */
 static inline uint8_t b_host_words(struct b_session *session, uint16_t *queue) {
     struct b_symbol symbol;
@@ -111,7 +116,7 @@ static inline uint8_t b_set_words(struct b_session *session, uint16_t address, c
     return status;
 }
 
-/* Has a function of the host answer. Otherwise than with B_DONE the program still asks, as it did. */
+/* Has a function of the host answer. Otherwise than with B_DONE the program still asks. */
 static inline int b_host_answer(struct b_session *session, const struct b_server *server, uint16_t queue) {
     uint16_t asked[B_HOST_ANSWER];
     int16_t words[5], answer = 0;
@@ -131,10 +136,8 @@ static inline int b_host_answer(struct b_session *session, const struct b_server
         if (is)
             told = server->services[at].answers(server->own, session, words, &answer);
     }
-    if (told != B_DONE) {
-        b_set_words(session, queue, asked, B_HOST_ANSWER);
+    if (told != B_DONE)
         return told;
-    }
     told = b_set_word(session, (uint16_t)(queue + B_HOST_ANSWER), (uint16_t)answer);
     return told != B_DONE ? told : b_set_word(session, queue, 0);
 }
@@ -147,10 +150,8 @@ static inline uint8_t b_host_read(struct b_session *session, const struct b_talk
     return b_feed(session, &byte, 1);
 }
 
-/* Runs on, as b_talk_on does, and answers each call of `host`. The status is B_SERVES where the program waits for a
- * call, B_NO_HOST without lib/host.b, B_UNKNOWN where it asks for a function that isn't there, or what a function gave
- * other than 0. The program gets its input by a byte at a time, and `*e` at its end. */
-static inline int b_serve(struct b_session *session, const struct b_server *server, uint8_t *value) {
+/* Runs on up to where the program waits, or where a call of it is over. */
+static inline int b_host_on(struct b_session *session, const struct b_server *server, int is_call, uint8_t *value) {
     uint64_t last = 0;
     struct b_place place;
     uint16_t queue = 0, state;
@@ -175,20 +176,30 @@ static inline int b_serve(struct b_session *session, const struct b_server *serv
         told = b_word(session, queue, &state);
         if (told != B_DONE)
             return told;
-        if (state == B_HOST_WAITS || state == B_HOST_CALLED)
+        if (b_host_says(state, B_HOST_WAITS) || (is_call && state == B_HOST_ASKS + B_HOST_CALLED))
             return B_SERVES;
-        if (state == B_HOST_ASKS)
-            told = b_host_answer(session, server, queue);
+        if (!b_host_says(state, B_HOST_ASKS)) {
+            told = b_host_read(session, server->talk);
+            continue;
+        }
+        told = b_host_answer(session, server, queue);
         if (told == B_DONE)
-            told = state == B_HOST_ASKS ? b_feed(session, (const uint8_t *)"\n", 1)
-                                        : b_host_read(session, server->talk);
+            told = b_feed(session, (const uint8_t *)"\n", 1);
     }
     return told;
 }
 
+/* Runs on, as b_talk_on does, and answers each call of `host`. The status is B_SERVES where the program waits for a
+ * call, B_NO_HOST without lib/host.b, B_UNKNOWN where it asks for a function that isn't there, or what a function gave
+ * other than 0. The program gets its input by a byte at a time, and `*e` at its end. */
+static inline int b_serve(struct b_session *session, const struct b_server *server, uint8_t *value) {
+    return b_host_on(session, server, 0, value);
+}
+
 /* Calls a function of a program that waits, with five words, and leaves its value. The status is B_SERVES, since it
- * waits again; B_UNKNOWN where it has no such function; B_NO_HOST where it doesn't wait; or as b_serve tells how the
- * run has ended in the call. */
+ * waits again; B_UNKNOWN where it has no such function; B_NO_HOST where it doesn't wait, or waits in `serve()` within
+ * the call; or as b_serve tells how the run has ended in the call. After B_LIMIT, or after what a function gave, the
+ * next b_serve goes on with the call, whose value is then lost. */
 static inline int b_call(struct b_session *session, const struct b_server *server, const char *name,
                          const int16_t words[5], int16_t *answer, uint8_t *value) {
     struct b_symbol symbol;
@@ -197,7 +208,7 @@ static inline int b_call(struct b_session *session, const struct b_server *serve
     int told = b_host_words(session, &queue);
     if (told == B_DONE)
         told = b_word(session, queue, &state);
-    if (told == B_DONE && state != B_HOST_ASKS && state != B_HOST_WAITS && state != B_HOST_CALLED)
+    if (told == B_DONE && !b_host_says(state, B_HOST_ASKS) && !b_host_says(state, B_HOST_WAITS))
         told = B_NO_HOST;
     if (told == B_DONE)
         told = b_find(session, (const uint8_t *)name, strlen(name), &symbol);
@@ -213,10 +224,14 @@ static inline int b_call(struct b_session *session, const struct b_server *serve
     if (told == B_DONE)
         told = b_feed(session, (const uint8_t *)"\n", 1);
     if (told == B_DONE)
-        told = b_serve(session, server, value);
+        told = b_host_on(session, server, 1, value);
     if (told != B_SERVES)
         return told;
-    told = b_word(session, (uint16_t)(queue + B_HOST_ANSWER), &word);
+    told = b_word(session, queue, &state);
+    if (told == B_DONE && state <= B_HOST_CALLED)
+        return B_NO_HOST;
+    if (told == B_DONE)
+        told = b_word(session, (uint16_t)(queue + B_HOST_ANSWER), &word);
     *answer = (int16_t)word;
     return told != B_DONE ? told : B_SERVES;
 }

@@ -119,6 +119,8 @@ int main(int count, char **words) {
              "ends(n) exit(n);\n"
              "twice() { host(\"long\"); host(\"long\"); while(1) ; }\n"
              "some(n) while(n--) ;\n"
+             "none() return(host(\"sometimes\", 6) + 1);\n"
+             "sub() serve();\n"
              "main() { auto v 20, c;\n"
              "while((c = getchar()) != '*e') putchar(host(\"add\", c, 1, -2, 2));\n"
              "printn(host(\"capitals\", \"odd\", v), 10); putchar(char(v, 2));\n"
@@ -139,6 +141,14 @@ int main(int count, char **words) {
         expect("its value", answer, down(n));
     }
     expect("no such function", b_call(&session, &server, "up", given, &answer, &own.value), B_UNKNOWN);
+    own.failed = 2 - 1;
+    expect("fails in a call", b_call(&session, &server, "none", given, &answer, &own.value), 200);
+    given[0] = 3;
+    expect("a call before it goes on", b_call(&session, &server, "down", given, &answer, &own.value), B_SERVES);
+    expect("its value", answer, down(3));
+    expect("goes on", b_serve(&session, &server, &own.value), B_SERVES);
+    expect("asked once more", own.failed, 3);
+    expect("waits within a call", b_call(&session, &server, "sub", given, &answer, &own.value), B_NO_HOST);
     server.steps = 2000;
     expect("a limit", b_call(&session, &server, "twice", given, &answer, &own.value), B_LIMIT);
     b_end(&session);

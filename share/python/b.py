@@ -411,7 +411,7 @@ class End(NamedTuple):
 _TRAPS = ("", "dz", "fn", "gt", "st", "dp", "bs", "sk")
 _KINDS = ("", "function", "simple", "vector", "parameter", "automatic", "automatic vector", "label", "instruction")
 _FIRST = 7  # the address of the first definition
-_ASKS, _CALLS, _WAITS = 1, 3, (2, 4)  # what lib/host.b says in the first word of its vector
+_ASKS, _WAITS, _CALLS, _CALLED = (1, 5), (2, 6), 3, (5, 6)  # what lib/host.b says in the first word of its vector
 _ANSWER = 7  # the word of it with an answer, after a name and up to five words
 _QUEUE = 9  # how many words it takes, with the one of its address
 _BUSY = "this session is in a call of another thread"
@@ -770,29 +770,30 @@ class Session:
         The program gets a byte of its input at a time, and at its end as many `*e` as it asks for."""
         self._queue()
         self._serving, self._ahead = (functions or {}, read, write), b""
-        return self._serve(steps)
+        return self._serve(_WAITS, steps)
 
     def call(self, name: Text, *words: int, steps: int = STEPS) -> int:
         """Calls a function of a program that waits, in `serve` of lib/host.b or for a function of the host, and gives
-        its value. Meanwhile what was handed to `serve` answers and reads. A run that ends first is an Ended."""
+        its value. Meanwhile what was handed to `serve` answers and reads. A run that ends first is an Ended, as is one
+        that made all its steps, or waits in `serve` anew: the next `serve` goes on with it."""
         function, queue = self.find(name), self._queue()
         if function is None or function.kind != "function":
             raise LookupError(f"the program has no function {name!r}")
-        if self.word(queue) not in (_ASKS, *_WAITS):
+        if self.word(queue) not in (*_ASKS, *_WAITS):
             raise ValueError("the program doesn't wait for a call")
         if len(words) > 5:
             raise TypeError("a call has five words at most")
         self.set_words(queue, [_CALLS, self.word(function.address), *words, *[0] * (5 - len(words))])
         self.feed(b"\n")
-        end = self._serve(steps)
-        if end.why != "serves":
+        end = self._serve((*_CALLED, *_WAITS), steps)
+        if end.why != "serves" or self.word(queue) not in _CALLED:
             raise Ended(end)
         return _signed(self.word(queue + _ANSWER))
 
-    def _serve(self, steps: int) -> End:
-        """Runs on to the end, or up to where the program waits."""
+    def _serve(self, waits: Tuple[int, ...], steps: int) -> End:
+        """Runs on to the end, or up to where the program waits with one of these states."""
         try:
-            return self.run(self._reply, self._serving[2], steps=steps)
+            return self.run(lambda: self._reply(waits), self._serving[2], steps=steps)
         except _Serves:
             return End("serves")
 
@@ -803,13 +804,13 @@ class Session:
             raise ValueError("the program has no lib/host.b")
         return queue.address + 1
 
-    def _reply(self) -> Text:
+    def _reply(self, waits: Tuple[int, ...]) -> Text:
         """What the program gets where it asks for a byte: of its input, or so that it looks at an answer."""
         queue = self._queue()
         state = self.word(queue)
-        if state in _WAITS:
+        if state in waits:
             raise _Serves
-        if state == _ASKS:
+        if state in _ASKS:
             self._answer(queue)
             return b"\n"
         if not self._ahead and self._serving[1] is not None:
@@ -825,12 +826,8 @@ class Session:
         function = self._serving[0].get(name)
         if function is None:
             raise LookupError(f"the host has no function {name!r}")
-        try:
-            answer = function(*[_signed(word) for word in asked[2 : 2 + _takes(function)]])
-            self.set_words(queue + _ANSWER, [0 if answer is None else answer])
-        except BaseException:
-            self.set_words(queue, asked)
-            raise
+        answer = function(*[_signed(word) for word in asked[2 : 2 + _takes(function)]])
+        self.set_words(queue + _ANSWER, [0 if answer is None else answer])
         self.set_word(queue, 0)
 
     def __iter__(self) -> Iterator[Place]:

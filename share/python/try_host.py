@@ -128,8 +128,44 @@ def failures():
     it = session('some(n) { while(n--) ; return(7); } main() { host("x"); host("x"); while(1) ; }')
     yield it.serve({"x": lambda: it.call("some", 1000)}, steps=2000).why, "limit"
     yield it.serve({"x": lambda: it.call("some", 1000)}, steps=2000).why, "limit"
+    yield from resumed()
     it = b.Session("hostq[1]; main() { extrn hostq; hostq[0] = 2; getchar(); }")
     yield raised(it.serve), ValueError
+
+
+def resumed():
+    """A run that goes on after a call that hasn't ended, or after another one."""
+    source = """
+    one(x) return(x + 1);
+    ask(x) return(host("may", x) + 100);
+    slow(x) { auto i; i = 0; while(i < x) i++; putchar(getchar()); return(i); }
+    sub(x) { serve(); return(x); }
+    main() { printn(host("first", 5), 10); serve(); }
+    """
+    it, asked = session(source), []
+
+    def may(x):
+        asked.append(x)
+        if len(asked) == 1:
+            raise KeyError("not yet")
+        return x + 1
+
+    functions = {"may": may, "first": lambda x: 2 * it.call("ask", x)}
+    yield raised(it.serve, functions), KeyError
+    yield it.call("one", 7), 8
+    other = it.copy()
+    yield it.serve(functions).why, "serves"
+    yield (asked, it.output()), ([5, 5, 5], b"212")
+    yield other.call("one", 8), 9
+    yield other.serve({"may": lambda x: x, "first": lambda x: other.call("ask", 1)}).why, "serves"
+    yield other.output(), b"101"
+    yield raised(it.call, "sub", 50), b.Ended
+    yield it.call("one", 1), 2
+    it = session(source)
+    yield raised(it.serve, {"first": lambda x: it.call("slow", 1000, steps=100)}, lambda: "Q"), b.Ended
+    yield raised(it.call, "one", 1), ValueError
+    yield it.serve({"first": lambda x: it.call("one", x)}, lambda: "Q").why, "serves"
+    yield it.output(), b"Q6"
 
 
 class Program:

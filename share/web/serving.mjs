@@ -2,7 +2,7 @@
 // words of the vector `hostq`, and a byte of input tells the program to look there.
 import {bytesOf} from './b.mjs';
 
-const ASKS = 1, CALLS = 3, WAITS = [2, 4]; // what the program says in the first word
+const ASKS = [1, 5], WAITS = [2, 6], CALLS = 3, CALLED = [5, 6]; // what the program says in the first word
 const NAME = 1, FIRST = 2, ANSWER = 7, MOST = 5; // the words of a name, of the first argument and of an answer
 const QUEUE = 9; // how many words the vector takes, with the one of its address
 const END = 4; // the character `*e`
@@ -62,11 +62,11 @@ export class Serving {
     }
   }
 
-  /** What the program gets where it asks for a byte. */
-  async reply() {
+  /** What the program gets where it asks for a byte. In a call the end of that is one, too. */
+  async reply(isCall) {
     const state = this.#session.word(this.#queue);
-    if (WAITS.includes(state)) throw new Waits();
-    if (state === ASKS) {
+    if (WAITS.includes(state) || (isCall && CALLED.includes(state))) throw new Waits();
+    if (ASKS.includes(state)) {
       await this.#answer();
       return LOOKS;
     }
@@ -76,18 +76,13 @@ export class Serving {
     return byte.length > 0 ? byte : new Uint8Array([END]);
   }
 
-  /** Calls the function that the program asks for, and leaves its answer. What it throws leaves the call as it was. */
+  /** Calls the function that the program asks for, and leaves its answer. */
   async #answer() {
     const asked = this.#session.words(this.#queue, ANSWER), name = textAt(this.#session, asked[NAME], 32767);
     const told = this.#functions.get(name);
     if (!told) throw new RangeError(`the host has no function ${name}`);
-    try {
-      const answer = await told(...asked.slice(FIRST, FIRST + MOST).map(signed));
-      this.#session.setWords(this.#queue + ANSWER, [wordOf(answer ?? 0)]);
-    } catch (error) {
-      this.#session.setWords(this.#queue, asked);
-      throw error;
-    }
+    const answer = await told(...asked.slice(FIRST, FIRST + MOST).map(signed));
+    this.#session.setWords(this.#queue + ANSWER, [wordOf(answer ?? 0)]);
     this.#session.setWord(this.#queue, 0);
   }
 
@@ -95,7 +90,7 @@ export class Serving {
   begin(name, words) {
     const it = this.#session.find(name), state = this.#session.word(this.#queue);
     if (it?.kind !== 'function') throw new RangeError(`the program has no function ${name}`);
-    if (state !== ASKS && !WAITS.includes(state)) throw new Error("the program doesn't wait for a call");
+    if (![...ASKS, ...WAITS].includes(state)) throw new Error("the program doesn't wait for a call");
     if (words.length > MOST) throw new RangeError('a call has five words at most');
     const given = Array.from({length: MOST}, (_, at) => wordOf(words[at] ?? 0));
     this.#session.setWords(this.#queue, [CALLS, this.#session.word(it.address), ...given]);
@@ -104,7 +99,8 @@ export class Serving {
 
   /** The value of that call. */
   value(end) {
-    if (end.why !== 'serves') throw Object.assign(new Error(`the run has ended: ${end.why}`), {end});
+    const has = end.why === 'serves' && CALLED.includes(this.#session.word(this.#queue));
+    if (!has) throw Object.assign(new Error(`the run has ended: ${end.why}`), {end});
     return signed(this.#session.word(this.#queue + ANSWER));
   }
 }

@@ -407,7 +407,8 @@ class Session {
   /** Runs on, and answers the calls of lib/host.b, up to an end, or until the program waits for a call. */
   async serve(functions = {}, {input, output, ...how} = {}) {
     this.#serving = new Serving(this, functions, input);
-    this.#talk = how => this.#handOn(this.#parts({input: () => this.#serving.reply(), ...how}), output);
+    this.#talk = ({isCall, ...how}) =>
+      this.#handOn(this.#parts({input: () => this.#serving.reply(isCall), ...how}), output);
     if (this.#isRunning) throw new Error('this session is running');
     this.#isRunning = true;
     try {
@@ -421,7 +422,7 @@ class Session {
   async call(name, words = [], how = {}) {
     if (!this.#serving) throw new Error('this session was not served yet');
     this.#serving.begin(name, words);
-    return this.#serving.value(await this.#serving.end(this.#talk(how)));
+    return this.#serving.value(await this.#serving.end(this.#talk({...how, isCall: true})));
   }
 
   words(address, count) {
