@@ -411,8 +411,11 @@ async function hosts({sessions, host, expect}) {
   const within = {g, x: async x => 2 * (await it.call('f', [x]))};
   expect('what it throws in a call', await kindOf(() => it.serve(within)), 'TypeError');
   expect('a call before it goes on', await it.call('one', [7]), 8);
-  expect('it goes on', await it.serve(within), ended('serves'));
-  expect('with all calls', [tries, text(it.output())], [3, '212']);
+  expect('it goes on', await it.serve(within, {output: part => told.push(text(part))}), ended('serves'));
+  expect('with all calls', [tries, told.at(-1)], [3, '212']);
+  const copy = it.copy();
+  expect('a copy is served, too', [await copy.call('one', [1]), await it.call('one', [2])], [2, 3]);
+  copy.free();
   expect('it waits in a call', (await thrown(() => it.call('sub'))).end, ended('serves'));
   expect('no host', await kindOf(() => sessions.load('main() ;').serve()), 'Error');
   expect('another vector', await kindOf(() => sessions.load('hostq[1]; main() ;').serve()), 'Error');

@@ -52,6 +52,13 @@ export class Serving {
     this.#queue = queue.address + 1;
   }
 
+  /** The same for a copy of its session. */
+  of(copy) {
+    const other = new Serving(copy, Object.fromEntries(this.#functions), this.#input);
+    other.#ahead = this.#ahead;
+    return other;
+  }
+
   /** How a run ends, where a program that waits is an end, too. */
   async end(run) {
     try {

@@ -293,7 +293,7 @@ class Session {
   #names = new Map();
   #isRunning = false;
   #serving = null;
-  #talk = null;
+  #output;
 
   constructor(sessions, load, runs, own, limits) {
     this.#sessions = sessions;
@@ -353,6 +353,8 @@ class Session {
     const own = this.#runs.copy(this.#own);
     const copy = new Session(this.#sessions, this.#load, this.#runs, own, this.#limits);
     copy.#names = this.#names;
+    copy.#serving = this.#serving?.of(copy) ?? null;
+    copy.#output = this.#output;
     return copy;
   }
 
@@ -407,8 +409,7 @@ class Session {
   /** Runs on, and answers the calls of lib/host.b, up to an end, or until the program waits for a call. */
   async serve(functions = {}, {input, output, ...how} = {}) {
     this.#serving = new Serving(this, functions, input);
-    this.#talk = ({isCall, ...how}) =>
-      this.#handOn(this.#parts({input: () => this.#serving.reply(isCall), ...how}), output);
+    this.#output = output;
     if (this.#isRunning) throw new Error('this session is running');
     this.#isRunning = true;
     try {
@@ -416,6 +417,10 @@ class Session {
     } finally {
       this.#isRunning = false;
     }
+  }
+
+  #talk({isCall, ...how}) {
+    return this.#handOn(this.#parts({input: () => this.#serving.reply(isCall), ...how}), this.#output);
   }
 
   /** Calls a function of a program that waits, and gives its value. */
