@@ -416,6 +416,8 @@ async function hosts({sessions, host, expect}) {
   const copy = it.copy();
   expect('a copy is served, too', [await copy.call('one', [1]), await it.call('one', [2])], [2, 3]);
   copy.free();
+  const [one, other] = await Promise.allSettled([it.call('one', [1]), it.call('one', [2])]);
+  expect('a call amid another', [one.value, other.status], [2, 'rejected']);
   expect('it waits in a call', (await thrown(() => it.call('sub'))).end, ended('serves'));
   expect('no host', await kindOf(() => sessions.load('main() ;').serve()), 'Error');
   expect('another vector', await kindOf(() => sessions.load('hostq[1]; main() ;').serve()), 'Error');

@@ -70,11 +70,11 @@ export class Serving {
   }
 
   /** What the program gets where it asks for a byte. In a call the end of that is one, too. */
-  async reply(isCall) {
+  async reply(isCall, during) {
     const state = this.#session.word(this.#queue);
     if (WAITS.includes(state) || (isCall && CALLED.includes(state))) throw new Waits();
     if (ASKS.includes(state)) {
-      await this.#answer();
+      await this.#answer(during);
       return LOOKS;
     }
     if (this.#ahead.length === 0) this.#ahead = bytesOf((await this.#input?.()) ?? '');
@@ -84,11 +84,11 @@ export class Serving {
   }
 
   /** Calls the function that the program asks for, and leaves its answer. */
-  async #answer() {
+  async #answer(during) {
     const asked = this.#session.words(this.#queue, ANSWER), name = textAt(this.#session, asked[NAME], 32767);
     const told = this.#functions.get(name);
     if (!told) throw new RangeError(`the host has no function ${name}`);
-    const answer = await told(...asked.slice(FIRST, FIRST + MOST).map(signed));
+    const answer = await during(() => told(...asked.slice(FIRST, FIRST + MOST).map(signed)));
     this.#session.setWords(this.#queue + ANSWER, [wordOf(answer ?? 0)]);
     this.#session.setWord(this.#queue, 0);
   }

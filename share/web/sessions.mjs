@@ -292,6 +292,7 @@ class Session {
   #limits;
   #names = new Map();
   #isRunning = false;
+  #isCalling = false; // a call or what serves is on, and no function of the host is at work in it
   #serving = null;
   #output;
 
@@ -408,26 +409,41 @@ class Session {
 
   /** Runs on, and answers the calls of lib/host.b, up to an end, or until the program waits for a call. */
   async serve(functions = {}, {input, output, ...how} = {}) {
+    if (this.#isRunning || this.#isCalling) throw new Error('this session is running');
     this.#serving = new Serving(this, functions, input);
     this.#output = output;
-    if (this.#isRunning) throw new Error('this session is running');
     this.#isRunning = true;
     try {
-      return await this.#serving.end(this.#talk(how));
+      return await this.#while(true, () => this.#talk(how));
     } finally {
       this.#isRunning = false;
     }
   }
 
+  /** Runs on, where no other call does, and tells how that ends. */
   #talk({isCall, ...how}) {
-    return this.#handOn(this.#parts({input: () => this.#serving.reply(isCall), ...how}), this.#output);
+    const input = () => this.#serving.reply(isCall, work => this.#while(false, work));
+    return this.#serving.end(this.#handOn(this.#parts({input, ...how}), this.#output));
+  }
+
+  /** Does what a call may come within, or none. A function of the host has to wait for its calls. */
+  async #while(isCalling, work) {
+    this.#isCalling = isCalling;
+    try {
+      const answer = await work();
+      if (this.#isCalling !== isCalling) throw new Error('a function of the host has not waited for its call');
+      return answer;
+    } finally {
+      this.#isCalling = !isCalling;
+    }
   }
 
   /** Calls a function of a program that waits, and gives its value. */
   async call(name, words = [], how = {}) {
     if (!this.#serving) throw new Error('this session was not served yet');
+    if (this.#isCalling) throw new Error('this session is running');
     this.#serving.begin(name, words);
-    return this.#serving.value(await this.#serving.end(this.#talk({...how, isCall: true})));
+    return this.#while(true, async () => this.#serving.value(await this.#talk({...how, isCall: true})));
   }
 
   words(address, count) {
