@@ -399,7 +399,8 @@ async function hosts({sessions, host, expect}) {
   expect('a wrong answer', await kindOf(() => it.serve({put: () => 70000})), 'RangeError');
   expect('the same call again', await it.serve({put}), halted(4));
   expect('the words of a text', it.words(65535, 2).length, 2);
-  it.setWords(-2, [7, 8]);
+  it.setWords(-2, new Set([7, 8]));
+  for (const wrong of [70000, 1.5]) expect('no word', await kindOf(() => it.setWords(-2, [9, wrong])), 'RangeError');
   expect('an address below 0', it.words(-2, 2), [7, 8]);
   it = load('some(n) { while(n--) ; return(7); } main() { host("x"); host("x"); while(1) ; }');
   const takesLong = {x: () => it.call('some', [1000])};

@@ -113,7 +113,7 @@ export class Serving {
 }
 
 /** A number as a word. */
-function wordOf(number) {
+export function wordOf(number) {
   if (Number.isInteger(number) && number >= -32768 && number <= 65535) return number & 65535;
   throw new RangeError(`a word is ${String(number)}, and has to be a whole number from -32768 to 65535`);
 }

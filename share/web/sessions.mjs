@@ -4,7 +4,7 @@
 // The module sessions.wasm has the calls of share/c/b_session.h. An address and a size have 64 bits there, and so they
 // are BigInts here.
 import {Kept, Refused, Stopped, bytesOf} from './b.mjs';
-import {Serving, storeText, textAt} from './serving.mjs';
+import {Serving, storeText, textAt, wordOf} from './serving.mjs';
 
 const DONE = 0, TRAP = 130, REFUSED = 132, FULL = 133, MEMORY = 134, CLOSED = 135, LARGE = 137;
 const WHY = {131: 'limit', 133: 'wants input', 136: 'has output', 138: 'stopped'};
@@ -451,7 +451,7 @@ class Session {
   }
 
   setWords(address, words) {
-    words.forEach((word, at) => this.setWord((address + at) & 65535, word & 65535));
+    [...words].map(wordOf).forEach((word, at) => this.setWord((address + at) & 65535, word));
   }
 
   text(address, most = 32767) {
