@@ -420,6 +420,14 @@ async function hosts({sessions, host, expect}) {
   const [one, other] = await Promise.allSettled([it.call('one', [1]), it.call('one', [2])]);
   expect('a call amid another', [one.value, other.status], [2, 'rejected']);
   expect('it waits in a call', (await thrown(() => it.call('sub'))).end, ended('serves'));
+  it = load('main() { auto c; while((c = getchar()) != 4) { putchar(c); host("x"); } }');
+  const more = ['abc', 'de', ''], talk = {input: () => more.shift(), output: part => void told.push(text(part))};
+  expect('no function', await kindOf(() => it.serve({}, talk)), 'RangeError');
+  expect('what was read ahead', (await it.serve({x: () => {}}, talk)).why, 'halted');
+  expect('all of it', told.join('').slice(-5), 'abcde');
+  it.start();
+  expect('and none of it then', (await it.serve({x: () => {}}, {output: talk.output})).why, 'halted');
+  expect('nothing more', told.join('').slice(-5), 'abcde');
   expect('no host', await kindOf(() => sessions.load('main() ;').serve()), 'Error');
   expect('another vector', await kindOf(() => sessions.load('hostq[1]; main() ;').serve()), 'Error');
   it.free();

@@ -610,7 +610,7 @@ class Session:
             self._load(*self._program)
         elif self._runs.held.run:
             self._call(_library.b_end)
-        self._runs.running = None
+        self._runs.running, self._ahead = None, b""
         status = self._call(_library.b_begin)
         if status == TRAP:
             raise Error(status, b"", _UNBEGUN)
@@ -769,7 +769,7 @@ class Session:
 
         The program gets a byte of its input at a time, and at its end as many `*e` as it asks for."""
         self._queue()
-        self._serving, self._ahead = (functions or {}, read, write), b""
+        self._serving = functions or {}, read, write
         return self._serve(_WAITS, steps)
 
     def call(self, name: Text, *words: int, steps: int = STEPS) -> int:

@@ -166,6 +166,14 @@ def resumed():
     yield raised(it.call, "one", 1), ValueError
     yield it.serve({"first": lambda x: it.call("one", x)}, lambda: "Q").why, "serves"
     yield it.output(), b"Q6"
+    it, given = session('main() { auto c; while((c = getchar()) != 4) { putchar(c); host("x"); } }'), ["abc", "de", ""]
+    read = lambda: given.pop(0)
+    yield raised(it.serve, {}, read), LookupError
+    while it.serve({"x": lambda: None}, read, steps=100).why == "limit":
+        pass
+    yield it.output(), b"abcde"
+    it.start()
+    yield (it.serve({"x": lambda: None}), it.output()), (b.End("halted"), b"")
 
 
 class Program:

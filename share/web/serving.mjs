@@ -43,20 +43,20 @@ export class Serving {
   #ahead = new Uint8Array();
   #queue;
 
-  constructor(session, functions, input) {
+  /** What was read ahead for one before it is given first. */
+  constructor(session, functions, input, before) {
     const queue = session.find('hostq');
     if (queue?.kind !== 'vector' || queue.words !== QUEUE) throw new Error('the program has no lib/host.b');
     this.#session = session;
     this.#functions = new Map(Object.entries(functions));
     this.#input = input;
+    if (before) this.#ahead = before.#ahead;
     this.#queue = queue.address + 1;
   }
 
   /** The same for a copy of its session. */
   of(copy) {
-    const other = new Serving(copy, Object.fromEntries(this.#functions), this.#input);
-    other.#ahead = this.#ahead;
-    return other;
+    return new Serving(copy, Object.fromEntries(this.#functions), this.#input, this);
   }
 
   /** How a run ends, where a program that waits is an end, too. */

@@ -346,6 +346,7 @@ class Session {
       this.#have(runs, {});
     }
     if (this.#runs.running !== null) this.#sessions.expect(this.#call('end'));
+    this.#serving = null;
     this.#begin(input);
   }
 
@@ -410,7 +411,7 @@ class Session {
   /** Runs on, and answers the calls of lib/host.b, up to an end, or until the program waits for a call. */
   async serve(functions = {}, {input, output, ...how} = {}) {
     if (this.#isRunning || this.#isCalling) throw new Error('this session is running');
-    this.#serving = new Serving(this, functions, input);
+    this.#serving = new Serving(this, functions, input, this.#serving);
     this.#output = output;
     this.#isRunning = true;
     try {
