@@ -20,8 +20,8 @@ extern "C" {
 /* The program waits for a call; it has no lib/host.b, or doesn't wait; or there is no function of that name. */
 enum { B_SERVES = 139, B_NO_HOST = 140, B_UNKNOWN = 141 };
 
-/* A function of the host: it gets five words, and leaves its answer. Where it gives other than 0, b_serve ends with
- * that, and the next one calls it anew. */
+/* A function of the host: it gets five words, and leaves its answer. Where it gives other than 0, or than the B_SERVES
+ * of a b_call that it made, b_serve ends with that, and the next one calls it anew. */
 struct b_service {
     const char *name;
     int (*answers)(void *own, struct b_session *session, const int16_t words[5], int16_t *answer);
@@ -136,7 +136,7 @@ static inline int b_host_answer(struct b_session *session, const struct b_server
         if (is)
             told = server->services[at].answers(server->own, session, words, &answer);
     }
-    if (told != B_DONE)
+    if (told != B_DONE && told != B_SERVES)
         return told;
     told = b_set_word(session, (uint16_t)(queue + B_HOST_ANSWER), (uint16_t)answer);
     return told != B_DONE ? told : b_set_word(session, queue, 0);

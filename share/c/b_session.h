@@ -179,7 +179,8 @@ uint8_t b_continue(struct b_session *session, uint64_t steps, uint8_t *value);
 
 /* Makes at least one step and so many at most, up to the first one after it before which it stops, and tells why it
  * ends: B_STOPPED there, and else as b_continue. It looks at what the run holds after each step. With B_NO_MEMORY
- * memory was refused for the stops, and nothing was done, or the run is lost, of which b_place then tells. */
+ * memory was refused for the stops, and nothing was done, or the run is lost, of which b_place then tells. Where no
+ * step is asked for, it tells B_LIMIT, even of a run that is over. */
 uint8_t b_continue_to(struct b_session *session, const struct b_stops *stops, uint64_t steps, uint8_t *value);
 
 /* Sets how much a run may hold: so many operands, so many pages of 256 words of its memory that have another word than
