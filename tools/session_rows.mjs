@@ -428,6 +428,16 @@ async function hosts({sessions, host, expect}) {
   it.start();
   expect('and none of it then', (await it.serve({x: () => {}}, {output: talk.output})).why, 'halted');
   expect('nothing more', told.join('').slice(-5), 'abcde');
+  it = load('main() { printn(host("late"), 10); putchar(getchar()); }');
+  const stop = new AbortController(), written = [];
+  let late;
+  const slow = {late: () => { setTimeout(() => stop.abort(), 1); return new Promise(done => void (late = done)); }};
+  expect('a signal', (await thrown(() => it.serve(slow, {signal: stop.signal}))).name, 'AbortError');
+  late(7);
+  await null;
+  const again = {input: () => 'Q', output: part => void written.push(text(part))};
+  expect('a function that is late', await it.serve({late: () => 8}, again), halted(0));
+  expect('it has no answer', written.join(''), '8Q');
   expect('no host', await kindOf(() => sessions.load('main() ;').serve()), 'Error');
   expect('another vector', await kindOf(() => sessions.load('hostq[1]; main() ;').serve()), 'Error');
   it.free();

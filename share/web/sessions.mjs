@@ -415,27 +415,41 @@ class Session {
     this.#output = output;
     this.#isRunning = true;
     try {
-      return await this.#while(true, () => this.#talk(how));
+      return await this.#calling(() => this.#talk(how));
     } finally {
       this.#isRunning = false;
     }
   }
 
   /** Runs on, where no other call does, and tells how that ends. */
-  #talk({isCall, ...how}) {
-    const input = () => this.#serving.reply(isCall, work => this.#while(false, work));
-    return this.#serving.end(this.#handOn(this.#parts({input, ...how}), this.#output));
+  async #talk({isCall, ...how}) {
+    const turn = {isOver: false}, input = () => this.#serving.reply(isCall, work => this.#atWork(turn, work));
+    try {
+      return await this.#serving.end(this.#handOn(this.#parts({input, ...how}), this.#output));
+    } finally {
+      turn.isOver = true;
+    }
   }
 
-  /** Does what a call may come within, or none. A function of the host has to wait for its calls. */
-  async #while(isCalling, work) {
-    this.#isCalling = isCalling;
+  /** Does a call, within which no other one comes but those of a function of the host. */
+  async #calling(work) {
+    this.#isCalling = true;
+    try {
+      return await work();
+    } finally {
+      this.#isCalling = false;
+    }
+  }
+
+  /** Has a function of the host at work, which has to wait for its calls. After a signal nobody waits for it. */
+  async #atWork(turn, work) {
+    this.#isCalling = false;
     try {
       const answer = await work();
-      if (this.#isCalling !== isCalling) throw new Error('a function of the host has not waited for its call');
+      if (this.#isCalling || turn.isOver) throw new Error('a function of the host has not waited for its call');
       return answer;
     } finally {
-      this.#isCalling = !isCalling;
+      if (!turn.isOver) this.#isCalling = true;
     }
   }
 
@@ -444,7 +458,7 @@ class Session {
     if (!this.#serving) throw new Error('this session was not served yet');
     if (this.#isCalling) throw new Error('this session is running');
     this.#serving.begin(name, words);
-    return this.#while(true, async () => this.#serving.value(await this.#talk({...how, isCall: true})));
+    return this.#calling(async () => this.#serving.value(await this.#talk({...how, isCall: true})));
   }
 
   words(address, count) {
