@@ -19,8 +19,8 @@ use Rattle.bsession.specs.declared.session.Limits.{Limits}
 use Rattle.bsession.specs.declared.session.SliceEnd.TheVariants as end
 use Rattle.bsession.specs.declared.session.StopEnd.TheVariants as stop_end
 use Rattle.btools.specs.declared.program.ProgramFault.TheVariants as fault
-use Rattle.bhost.specs.Deeds.{Acts, Begins, Does, IsFed, IsStored, NamesFunction, IsTaken, frame_in, frame_of, stands_with}
-use Rattle.bhost.specs.Deeds.{word_told}
+use Rattle.bhost.specs.Deeds.{Acts, Begins, Does, DoesWith, IsFed, IsStored, NamesFunction, IsTaken, frame_in, frame_of}
+use Rattle.bhost.specs.Deeds.{stands_with, word_told}
 use Rattle.bhost.specs.Hosts.{LoadedValue}
 use Rattle.bhost.specs.Runs.{IsCopied, RunsView, copy_told, swapped, without}
 use Rattle.bhost.specs.Statuses.{answer_callers, answer_frame, answer_column, answer_function, answer_line, answer_place}
@@ -259,6 +259,23 @@ run_stays same = let steps : 4 ≡ 3 = ap (λ (runs : RunsView). runs.run.steps)
 
 refused_changes_nothing : IsCopied alone (record alone { kept = lost ∷ [] }) answer.Refused → ⊥
 refused_changes_nothing same = let kept : lost ∷ [] ≡ [] = ap (λ (runs : RunsView). runs.kept) same in cc
+
+-- it is closed as the run is, and has its limits
+no_close_forgotten : kept_as (record lost { is_closed = false }) → ⊥
+no_close_forgotten same = let closed : false ≡ true = ap (λ r. (first r).is_closed) same in cc
+
+no_limit_forgotten : kept_as (record lost { limits = record none { operands = 1 } }) → ⊥
+no_limit_forgotten same = let few : 1 ≡ 0 = ap (λ r. (first r).limits.operands) same in cc
+
+-- a copy comes after those that are there, and they stay with all that is done with the run
+copied_after : IsCopied with_two (record with_two { kept = at 4 ∷ at 5 ∷ lost ∷ [] }) answer.Done
+copied_after = refl
+
+copies_stay : (loaded : LoadedValue) → DoesWith deed.Close loaded with_two alone [] [] answer.Done → ⊥
+copies_stay loaded does = let kept : [] ≡ at 4 ∷ at 5 ∷ [] = does.1 in cc
+
+none_at_first : (image : Image) → Begins image (Some with_two) answer.Done → ⊥
+none_at_first image begins = let kept : at 4 ∷ at 5 ∷ [] ≡ [] = begins.1.0 in cc
 
 -- each copy in the place of the run, and none
 swaps : map (λ n. swapped with_two n (slice_get with_two.kept n)) (0 ∷ 1 ∷ 2 ∷ [])

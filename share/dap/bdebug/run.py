@@ -130,12 +130,16 @@ class Run:
             self.spacing *= 2
 
     def _go_back(self, steps: int) -> None:
-        """Goes to the last checkpoint that is no later than so many steps, or begins anew."""
+        """Goes to the last checkpoint that is no later than so many steps, or begins anew, as where there is no memory
+        for a copy of it."""
         it = next((it for it in reversed(self.checkpoints) if it.steps <= steps), None)
-        if it is None:
+        try:
+            session = it and it.session.copy()
+        except (MemoryError, library().Error):
+            session = None
+        if session is None:
             self._begin()
             return
-        session = it.session.copy()
         self.session.close()
         self.session, self.end, self.written, self.applied = session, None, it.written, it.applied
         if it.fed < len(self.input):
