@@ -160,5 +160,3 @@ module _ (edition : Edition) (source : List ℕ) where
 pub found_in : (old new : Scanner) (found : PlacedPiece) (edition : Edition) (source : List ℕ) → Finds old found new → old.edition ≡ edition → old.source ≡ source
     → found ≡ next_piece edition source old.at
 found_in old new found edition source h e f = h.found_is ∙ ap (λ x. next_piece x old.source old.at) e ∙ ap (λ s. next_piece edition s old.at) f
-
-module _ (edition : Edition) (line : ℕ) (source : List ℕ) (place : ℕ) where
