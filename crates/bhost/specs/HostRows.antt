@@ -265,7 +265,7 @@ no_close_forgotten : kept_as (record lost { is_closed = false }) → ⊥
 no_close_forgotten same = let closed : false ≡ true = ap (λ r. (first r).is_closed) same in cc
 
 no_limit_forgotten : kept_as (record lost { limits = record none { operands = 1 } }) → ⊥
-no_limit_forgotten same = let few : 1 ≡ 0 = ap (λ r. (first r).limits.operands) same in cc
+no_limit_forgotten same = let few : 1 ≡ 0 = ap (λ r. (first r).limits.operands) same in omega (arith, few)
 
 -- a copy comes after those that are there, and they stay with all that is done with the run
 copied_after : IsCopied with_two (record with_two { kept = at 4 ∷ at 5 ∷ lost ∷ [] }) answer.Done
@@ -275,7 +275,7 @@ copies_stay : (loaded : LoadedValue) → DoesWith deed.Close loaded with_two alo
 copies_stay loaded does = let kept : [] ≡ at 4 ∷ at 5 ∷ [] = does.1 in cc
 
 none_at_first : (image : Image) → Begins image (Some with_two) answer.Done → ⊥
-none_at_first image begins = let kept : at 4 ∷ at 5 ∷ [] ≡ [] = begins.1.0 in cc
+none_at_first image begins = let kept : at 4 ∷ at 5 ∷ [] ≡ [] = begins.1 in cc
 
 -- each copy in the place of the run, and none
 swaps : map (λ n. swapped with_two n (slice_get with_two.kept n)) (0 ∷ 1 ∷ 2 ∷ [])
