@@ -36,7 +36,8 @@ Allows other run = IsSome run
 abbrev pub LacksRoom : Outcome → Type 0
 LacksRoom why = (why ≡ outcome.Memory) ⊎ (why ≡ outcome.Trap trap.NoRoom)
 
--- A run has begun, without copies; or it hasn't, since memory was refused where it has a first step, or its first frame has no room.
+-- A run has begun, without copies; or it hasn't, since memory was refused where it has a first step, or its first frame
+-- has no room.
 abbrev pub Begins : Image → (new : Option RunsView) → Answer → Type 0
 Begins image (Some h) told = BeginsSession image h.run × (h.kept ≡ []) × (told ≡ answer.Done)
 Begins image None told =
