@@ -1,5 +1,6 @@
 -- Promise: what is done with a session that is held with its program.
-use Rattle.std.specs.Prelude.{◌≡◌, ◌≢◌, ◌⊎◌, ⊤, ℕ, ◌-◌, zero, suc, List, [], ◌++◌, drop, take, false, true, IsSome, Option, slice_get}
+use Rattle.std.specs.Prelude.{◌≡◌, ◌≢◌, ◌⊎◌, ⊤, ℕ, ◌-◌, zero, suc, List, [], ◌++◌, drop, take, false, true, IsSome}
+use Rattle.std.specs.Prelude.{Option, slice_get}
 use Rattle.std.specs.Prelude.{Some, None}
 use Rattle.bmach.specs.Stepping.{BeginsNot, ShowsFirst}
 use Rattle.bsession.specs.Sessions.{AsksForRoom, BeginsSession, GoesOnWithin, IsThere, KeepsLimits, SessionContinues, SessionView}

@@ -117,7 +117,8 @@ words_told frame is = rw is refl
 
 labels_told : (frame : Frame) → frame.labels.items ≡ codes "top" ∷ []
     → map (λ number. framed_told frame (query.Label 10 number)) (0 ∷ 1 ∷ [])
-    ≡ Some (record blank { name = codes "top" ++ replicate 6 0; kind = 7; address = 1; line = 3; column = 9 }) ∷ None ∷ []
+    ≡ Some (record blank { name = codes "top" ++ replicate 6 0; kind = 7; address = 1; line = 3; column = 9 })
+    ∷ None ∷ []
 labels_told frame is = rw is refl
 
 -- names of one byte and of eight have a zero after them
