@@ -25,9 +25,9 @@ pub trait Buffered {
     /// For how many bytes it has room without showing any.
     ghost spare: { Self → ℕ };
 
-    /// For how many bytes there is room at least without showing any.
+    /// For how many bytes there is room without showing any.
     fn spare(&self) -> usize
-        ensures { result ≤ spare self.now };
+        ensures { result ≡ spare self.now };
 
     /// Takes bytes, and shows some where it can't keep them.
     fn take(&mut self, bytes: &[u8]) -> io::Result<()>

@@ -103,13 +103,14 @@ pub trait ByteOut {
     // Whether a refused `put` writes none of its bytes.
     ghost refuses_whole: { Bool };
 
-    // How many bytes the next `put` can't refuse, or 0 where it may refuse any.
+    // How many bytes the next `put` can't refuse, or 0 where it may refuse any and nothing is held for it.
     ghost room: { Self → ℕ } = { λ _. 0 };
 
     /// Sets room aside for the next `put`, and tells for how many bytes. It may be none. Where there is some, nothing
     /// may be asked of the other streams before that `put`, which may be one of no byte.
     fn set_aside(&mut self) -> usize
         ensures room { result ≤ room self.new }
+        ensures none { result ≡ 0 → room self.new ≤ room self.old }
         ensures kept { outgoing self.new ≡ outgoing self.old }
         ensures same { lender self.new ≡ lender self.old }
     {
@@ -127,6 +128,7 @@ pub trait ByteOut {
         ensures whole { IsTrue refuses_whole
             → OnErr result (Outgoing.written (outgoing self.new) ≡ Outgoing.written (outgoing self.old)) }
         ensures fits { 0 < room self.old → length bytes.now ≤ room self.old → OnErr result ⊥ }
+        ensures lets_go { room self.new ≡ 0 }
         ensures same { lender self.new ≡ lender self.old };
 }
 
