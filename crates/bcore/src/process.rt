@@ -283,6 +283,7 @@ impl<B: Buffered + Drop> ByteOut for OutputEnd<'_, B> {
         ensures gives { PutGives self.old.seen bytes.now result self.new.seen }
         ensures takes { OnOk result (WasTaken B.takes bytes.now) }
         ensures fits { 0 < self.old.room → length bytes.now ≤ self.old.room → OnErr result ⊥ }
+        ensures lets_go { self.new.room ≡ 0 }
     {
         let taken = match self.held.take() {
             Some(mut buffer) => buffer.take(bytes),

@@ -110,7 +110,7 @@ pub struct Stop {
     pub outcome: Outcome,
     /// After a trap the running call before the step that was one; at the limit the one after the last step.
     pub call: Active,
-    /// How many steps were made, the one that was a trap among them, and not one that was broken off.
+    /// How many steps were made, the one that was a trap among them. One that was broken off may be among them.
     pub steps: u64,
 }
 

@@ -190,7 +190,7 @@ module _ (p q : Paused) (f g : Fed) (o w : Kept) (taken made n : ℕ) (limits : 
 
   -- memory was refused, and nothing of the output is lost
   lost_gives : 0 < allowed old n
-      → BrokenAfter p (allowed old n) (fed_incoming f) (fed_incoming g) (outgoing_of o) (outgoing_of w)
+      → BrokenAfter p (allowed old n) (fed_incoming f) (fed_incoming g) (outgoing_of o) (outgoing_of w) stop
       → IsLostAfter p old (new outcome.Memory) n
   lost_gives some a = record {
     lost = refl;
