@@ -5,6 +5,7 @@ ghost use Rattle.bcheck.specs.Checks.{is_on_line};
 
 use crate::finding::Place;
 use crate::spans::utf8_length;
+use blex::escape;
 
 /// A byte that begins no token.
 #[derive(Clone, Copy)]
@@ -188,8 +189,7 @@ fn wrong_in(byte: u8, is_escaped: bool) -> Option<Constant> {
         0x80.. => Some(Constant::Letter),
         b'\t' if !is_escaped => None,
         0..=31 | 127 => Some(Constant::Control),
-        b'0' | b'e' | b'(' | b')' | b't' | b'*' | b'\'' | b'"' | b'n' => None,
-        _ if is_escaped => Some(Constant::Escape),
+        _ if is_escaped && escape(byte).is_none() => Some(Constant::Escape),
         _ => None,
     }
 }

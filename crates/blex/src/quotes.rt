@@ -100,9 +100,9 @@ fn plain(byte: u8) -> Option<u8>
     }
 }
 
-// The byte of an escape with this one after its star.
+/// The byte of an escape with this one after its star, if there is one.
 #[tactic(auto, unfolding(blang::specs::Cut::escape_of))]
-fn escape(byte: u8) -> Option<u8>
+pub fn escape(byte: u8) -> Option<u8>
     ensures { result ≡ escape_of byte }
 {
     match byte {
