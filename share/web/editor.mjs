@@ -4,10 +4,8 @@
 /* global CodeMirror */
 import {isCode} from './files.mjs';
 
-const ESCAPES = /[0e()nt*'"]/;
-
-function inQuotes(stream, state) {
-  if (stream.match(/^\*./)) return ESCAPES.test(stream.current()[1]) ? 'string-2' : 'error';
+function inQuotes(stream, state, escapes) {
+  if (stream.match(/^\*./)) return escapes.includes(stream.current()[1]) ? 'string-2' : 'error';
   if (stream.next() === state.quote || stream.eol()) state.quote = '';
   else if (!stream.eol()) stream.match(/^[^*'"]+/);
   if (stream.eol()) state.quote = '';
@@ -41,7 +39,7 @@ function plain(stream, state, styleOf) {
 const indent = (state, after) => Math.max(0, state.depth - (/^\s*}/.test(after) ? 1 : 0)) * 4;
 
 /** How a source is coloured. The words of the language are those that the other editors have. */
-function language({keywords, second, library}) {
+function language({keywords, second, escapes, library}) {
   const isKeyword = new Set([...keywords, ...second]), isLibrary = new Set(Object.keys(library));
   const styleOf = word => isKeyword.has(word) ? 'keyword' : isLibrary.has(word) ? 'builtin' : 'variable';
   return {
@@ -49,7 +47,7 @@ function language({keywords, second, library}) {
     copyState: state => ({...state}),
     token(stream, state) {
       if (state.isComment) return inComment(stream, state);
-      if (state.quote) return inQuotes(stream, state);
+      if (state.quote) return inQuotes(stream, state, escapes);
       const style = plain(stream, state, styleOf);
       if (style === 'bracket' && stream.current() === '{') state.depth++;
       if (style === 'bracket' && stream.current() === '}') state.depth = Math.max(0, state.depth - 1);

@@ -1,6 +1,8 @@
 -- Closed facts: bytes and words as characters, columns, lines of loading, lines of a source, and where a name
 -- lies.
-use Rattle.std.specs.Prelude.{◌≡◌, [], ◌∷◌, ◌++◌, codes, map, refl, true, false, Some, None}
+use Rattle.std.specs.Prelude.{◌≡◌, [], ◌∷◌, ◌++◌, codes, filter, get_or, length, map, nat_lt, refl, true, false, Some, None}
+use Rattle.std.specs.List.{range_with_len}
+use Rattle.blang.specs.Cut.{escape_of}
 use Rattle.blang.specs.declared.run.LoadFault.TheVariants as fault
 use Rattle.blang.specs.Machine.{Image}
 use Rattle.btools.specs.Characters.{is_printable, shown_byte, shown_word}
@@ -15,6 +17,14 @@ printable_limits = refl
 bytes_with_escapes : map shown_byte (10 ∷ 9 ∷ 42 ∷ 0 ∷ 4 ∷ [])
     ≡ codes "*n" ∷ codes "*t" ∷ codes "**" ∷ codes "*0" ∷ codes "*e" ∷ []
 bytes_with_escapes = refl
+
+-- these alone, each by an escape of the language that stands for it
+bytes_with_two : filter (λ b. nat_lt 1 (length (shown_byte b))) (range_with_len 0 256) ≡ 0 ∷ 4 ∷ 9 ∷ 10 ∷ 42 ∷ []
+bytes_with_two = refl
+
+bytes_escaped : map (λ b. escape_of (get_or (shown_byte b) 1 0)) (0 ∷ 4 ∷ 9 ∷ 10 ∷ 42 ∷ [])
+    ≡ Some 0 ∷ Some 4 ∷ Some 9 ∷ Some 10 ∷ Some 42 ∷ []
+bytes_escaped = refl
 
 bytes_at_limits : map shown_byte (31 ∷ 32 ∷ 126 ∷ 127 ∷ 255 ∷ [])
     ≡ codes "." ∷ codes " " ∷ codes "~" ∷ codes "." ∷ codes "." ∷ []

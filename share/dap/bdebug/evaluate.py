@@ -5,7 +5,8 @@ No function is called. What stores a word is allowed where the user asks for it 
 import functools
 from typing import Callable, NamedTuple, Optional
 
-from .tokens import KEYWORDS, Token, TokenFault, constant_of, tokens_of
+from .language import KEYWORDS
+from .tokens import Token, TokenFault, constant_of, tokens_of
 from .words import WORD, signed
 
 RANKS = (("*", "/", "%"), ("+", "-"), ("<<", ">>"), ("<", "<=", ">", ">="), ("==", "!="), ("&",), ("|",))

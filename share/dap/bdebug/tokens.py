@@ -2,15 +2,14 @@
 import re
 from typing import Iterator, NamedTuple
 
-KEYWORDS = ("auto", "case", "else", "extrn", "goto", "if", "return", "switch", "while")
-BINARY = ("+", "-", "*", "/", "%", "<", "<=", ">", ">=", "==", "!=", "&", "|", "<<", ">>")
+from .language import BINARY, ESCAPES
+
 _ASSIGNMENTS = sorted(("=" + it for it in BINARY), key=len, reverse=True)
 _SIGNS = sorted((*_ASSIGNMENTS, *BINARY, "++", "--", "=", "!", *"?:,;()[]{}"), key=len, reverse=True)
 _TOKEN = re.compile(
     r"(?P<blank>[ \t\n\r\f\v]+|/\*.*?\*/)|(?P<name>[A-Za-z_]\w*)|(?P<number>\d+)"
     r"|(?P<character>'(?:\*.|[^'*])*')|(?P<string>\"(?:\*.|[^\"*])*\")"
     r"|(?P<sign>" + "|".join(map(re.escape, _SIGNS)) + ")", re.A | re.S)
-_CODES = {"0": 0, "e": 4, "t": 9, "n": 10, "(": 123, ")": 125, "*": 42, "'": 39, '"': 34}
 
 
 class TokenFault(Exception):
@@ -45,9 +44,9 @@ def constant_of(token: Token) -> int:
             raise TokenFault(f"{token.text} has a digit that isn't octal")
         return int(token.text, 8 if octal else 10) & 0xFFFF
     codes = re.findall(r"\*(.)|(.)", token.text[1:-1], re.S)
-    if not 1 <= len(codes) <= 2 or any(escape and escape not in _CODES for escape, _ in codes):
+    if not 1 <= len(codes) <= 2 or any(escape and escape not in ESCAPES for escape, _ in codes):
         raise TokenFault(f"{token.text} is no character constant")
     word = 0
     for escape, plain in codes:
-        word = word << 8 | (_CODES[escape] if escape else ord(plain) & 0xFF)
+        word = word << 8 | (ESCAPES[escape] if escape else ord(plain) & 0xFF)
     return word
