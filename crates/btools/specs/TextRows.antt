@@ -24,6 +24,7 @@ bytes_with_two = refl
 
 bytes_escaped : map (λ b. escape_of (get_or (shown_byte b) 1 0)) (0 ∷ 4 ∷ 9 ∷ 10 ∷ 42 ∷ [])
     ≡ Some 0 ∷ Some 4 ∷ Some 9 ∷ Some 10 ∷ Some 42 ∷ []
+unfolding escape_of
 bytes_escaped = refl
 
 bytes_at_limits : map shown_byte (31 ∷ 32 ∷ 126 ∷ 127 ∷ 255 ∷ [])
