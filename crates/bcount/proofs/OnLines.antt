@@ -1,16 +1,17 @@
 -- The instructions of a program, each on its line.
-use Rattle.std.proofs.Common.{◌≡◌, ◌∙◌, ℕ, ◌+◌, ◌<◌, ◌≤◌, List, [], ◌∷◌, ◌++◌, Option, Some, None, add-one, ap, ap₂, append_assoc, arith, drop, drop-cons, get_or, length, map, refl, sym}
+use Rattle.std.proofs.Common.{◌≡◌, ◌∙◌, ℕ, ◌+◌, ◌-◌, ◌<◌, ◌≤◌, List, [], ◌∷◌, ◌++◌, Option, Some, None, add-one, ap, ap₂, append_assoc, arith, drop, drop-cons, get_or, length, map, min, refl, sym}
 use Rattle.std.specs.Borrow.{Bor}
 use Rattle.std.specs.List.{All, ends_with, enumerate_from, flat_map, slice_get}
 use Rattle.std.specs.Option.{option_copied}
 use Rattle.std.specs.Prelude.{MatchOption, codes, option_map, ◌==◌}
 use Rattle.std.proofs.lemmas.Bool.{cond_both}
+use Rattle.std.proofs.lemmas.Bool.Decides.{nat_tests}
 use Rattle.std.proofs.lemmas.List.{map-append}
 use Rattle.std.proofs.lemmas.List.Elements.{All-append, All-cons, All-nil}
 use Rattle.std.proofs.lemmas.Option.{slice_get-get_or, slice_get-map, slice_get_past}
-use Rattle.btools.specs.ProgramLines.{FunctionLines, lined_entry}
+use Rattle.btools.specs.ProgramLines.{FunctionLines, line_in, lined_entry}
 use Rattle.btools.specs.declared.tables.FunctionEntry.{FunctionEntry}
-use Rattle.bcount.specs.Counts.{counted_at, counted_in, counted_of}
+use Rattle.bcount.specs.Counts.{counted_at, counted_in, counted_of, row_of, rows_of}
 use Rattle.btools.specs.SourceLines.{last_line, newlines_in}
 use Rattle.bcount.specs.SourceLines.{IsOnLines}
 use Rattle.bcount.specs.declared.lines.Counted.{Counted}
@@ -54,17 +55,25 @@ counts_from last fs n (t ∷ ts) =
 pub counts_kept : (last : ℕ) (fs : List FunctionLines) (tallies : List (List ℕ)) → map (λ (c : Counted). c.count) (counted_of last fs tallies) ≡ flat_map (λ xs. xs) tallies
 counts_kept last fs tallies = counts_from last fs 0 tallies
 
--- each is on a line of the source
-on_in : (last : ℕ) (f : Option FunctionLines) (n : ℕ) (counts : List ℕ) → 0 < last → All (IsOnLines last) (map (λ x. counted_at last f x.0 x.1) (enumerate_from n counts))
-on_in last f n [] some = All-nil (IsOnLines last)
-on_in last f n (c ∷ cs) some = All-cons (IsOnLines last) (counted_at last f n c) _ (omega (arith, some), omega (arith, some)) (on_in last f (n + 1) cs some)
+-- each is on a row
+on_row : (rows line : ℕ) → 1 < rows → (0 < row_of rows line) × (row_of rows line ≤ rows)
+on_row rows line some =
+    cond_both (line == 0) rows (min line (rows - 1)) (λ n. (0 < n) × (n ≤ rows)) (λ e. (omega (arith, some), omega arith))
+    (λ e. (grind (arith, nat_tests), omega arith))
 
-on_from : (last : ℕ) (fs : List FunctionLines) (n : ℕ) (tallies : List (List ℕ)) → 0 < last → All (IsOnLines last) (from_function last fs n tallies)
+on_in : (last : ℕ) (f : Option FunctionLines) (n : ℕ) (counts : List ℕ) → 1 < last → All (IsOnLines last) (map (λ x. counted_at last f x.0 x.1) (enumerate_from n counts))
+on_in last f n [] some = All-nil (IsOnLines last)
+on_in last f n (c ∷ cs) some = All-cons (IsOnLines last) (counted_at last f n c) _ (on_row last (line_in f n) some) (on_in last f (n + 1) cs some)
+
+on_from : (last : ℕ) (fs : List FunctionLines) (n : ℕ) (tallies : List (List ℕ)) → 1 < last → All (IsOnLines last) (from_function last fs n tallies)
 on_from last fs n [] some = All-nil (IsOnLines last)
 on_from last fs n (t ∷ ts) some = All-append (IsOnLines last) (counted_in last (slice_get fs n) t) (from_function last fs (n + 1) ts) (on_in last (slice_get fs n) 0 t some) (on_from last fs (n + 1) ts some)
 
-pub all_on : (last : ℕ) (fs : List FunctionLines) (tallies : List (List ℕ)) → 0 < last → All (IsOnLines last) (counted_of last fs tallies)
+pub all_on : (last : ℕ) (fs : List FunctionLines) (tallies : List (List ℕ)) → 1 < last → All (IsOnLines last) (counted_of last fs tallies)
 all_on last fs tallies some = on_from last fs 0 tallies some
 
-pub some_line : (source : List ℕ) → 0 < last_line source
+some_line : (source : List ℕ) → 0 < last_line source
 some_line source = cond_both (ends_with (λ a b. a == b) source (codes "\n")) (newlines_in source) (newlines_in source + 1) (λ n. 0 < n) (λ e. ended source e) (λ e. omega arith)
+
+pub two_rows : (source : List ℕ) → 1 < rows_of source
+two_rows source = let some = some_line source in omega (arith, some)

@@ -24,14 +24,13 @@ use Rattle.bmach.specs.Stops.{active_of}
 use Rattle.bwatch.specs.Sights.{Sights, sight_of, sights_of}
 use Rattle.bwatch.specs.Watches.{EndsAfter}
 use Rattle.bcount.proofs.Counted.{counts_are, not_unread}
-use Rattle.bcount.specs.Counts.{counted_of, counts_by_line}
-use Rattle.btools.specs.SourceLines.{last_line}
+use Rattle.bcount.specs.Counts.{counted_of, counts_by_line, rows_of}
 use Rattle.bcount.specs.Tallies.{counts_of}
 use Rattle.bcount.specs.Together.{AddUp, StepsAddUp, all_steps}
 use Rattle.bcount.specs.declared.lines.Counted.{Counted}
 use Rattle.bcount.proofs.Addresses.{ascend, is_placed}
 use Rattle.bcount.proofs.AllLines.{lines_together}
-use Rattle.bcount.proofs.OnLines.{all_on, counts_kept, some_line}
+use Rattle.bcount.proofs.OnLines.{all_on, counts_kept, two_rows}
 use Rattle.bcount.proofs.OwnCalls.{AreOurs, ours_at}
 use Rattle.bcount.proofs.Totals.{all_hits, counts_together, no_hit, one_hit, sum_of_map, totals, totals_more}
 
@@ -202,11 +201,11 @@ steps_add_up asked source tallies made h fs =
     let told = h.counts.told [] (λ e. refl) in
     let sights = sights_of (image_of h.ds).functions (machine h.ds) input in
     let read = not_unread (functions_of h.ds) tallies sights made h.result told in
-    let last = last_line source in
-    let counted = counted_of last fs tallies in
+    let rows = rows_of source in
+    let counted = counted_of rows fs tallies in
     let within = h.counts.within in
     let fits = h.fits in
     let sum = sym (sum_of_map (λ x. x) (λ (c : Counted). c.count) counted)
-    ∙ ap (sum_by (λ x. x)) (counts_kept last fs tallies ∙ ap (flat_map (λ xs. xs)) (counts_are (functions_of h.ds) tallies sights made h.result told)) in
+    ∙ ap (sum_by (λ x. x)) (counts_kept rows fs tallies ∙ ap (flat_map (λ xs. xs)) (counts_are (functions_of h.ds) tallies sights made h.result told)) in
     add_up asked.origin source h.ds h.image h.program input made asked.steps h.result [] (h.counts.ends [] (λ e. refl)) read (all_steps (counts_by_line source fs tallies))
-    (λ n le is. lines_together last n counted (all_on last fs tallies (some_line source)) (sum ∙ is) (omega (arith, within, fits, le)))
+    (λ n le is. lines_together rows n counted (all_on rows fs tallies (two_rows source)) (sum ∙ is) (omega (arith, within, fits, le)))

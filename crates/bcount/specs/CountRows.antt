@@ -1,5 +1,5 @@
 -- Closed facts: counts and their rows, on small values.
-use Rattle.std.specs.Prelude.{◌≡◌, ℕ, true, false, List, [], ◌∷◌, ◌++◌, Some, None, codes, decimal, map, refl}
+use Rattle.std.specs.Prelude.{◌≡◌, ℕ, true, false, List, [], ◌∷◌, ◌++◌, Some, None, codes, map, refl}
 use Rattle.std.specs.Fmt.{digits}
 use Rattle.std.specs.List.{range_with_len}
 use Rattle.blang.specs.Text.{code_lines, joined}
@@ -14,10 +14,10 @@ use Rattle.bcount.specs.declared.lines.LineCount.{LineCount}
 use Rattle.bcount.specs.declared.table.CountStyle.{CountStyle}
 use Rattle.bcount.specs.declared.table.CountStyle.TheVariants as styles
 use Rattle.bcount.specs.CountExcluded.{nothing}
-use Rattle.bcount.specs.Counts.{Asked, count_text, counted_of, line_counts, nearest_line, steps_on, times_on}
+use Rattle.bcount.specs.Counts.{Asked, count_text, counted_of, line_counts, row_of, steps_on, times_on}
 use Rattle.bcount.specs.Marks.{is_marked, no_code}
 use Rattle.bcount.specs.SourceLines.{beside_text}
-use Rattle.bcount.specs.Tables.{cells_text, file_row, hint_of, object_text, total_of}
+use Rattle.bcount.specs.Tables.{cells_text, file_row, hint_of, none_text, object_text, total_of}
 use Rattle.bcount.specs.Tallies.{bumped}
 use Rattle.bcount.specs.Together.{all_steps}
 
@@ -140,13 +140,13 @@ two_functions = record { strings = 8; lines = 1 ∷ 1 ∷ [] } ∷ record { stri
 abbrev tallies : List (List ℕ)
 tallies = (2 ∷ 1 ∷ []) ∷ (1 ∷ []) ∷ []
 
-each_on_its_line : counted_of 3 two_functions tallies
+each_on_its_line : counted_of 4 two_functions tallies
     ≡ record { line = 1; count = 2 } ∷ record { line = 1; count = 1 } ∷ record { line = 3; count = 1 } ∷ []
 each_on_its_line = refl
 
--- the first and the last line of a source of three, and what is before and after them
-nearest_lines : map (nearest_line 3) (0 ∷ 1 ∷ 3 ∷ 4 ∷ []) ≡ 1 ∷ 1 ∷ 3 ∷ 3 ∷ []
-nearest_lines = refl
+-- the first and the last line of a source of three, what is after them, and none
+rows_of_lines : map (row_of 4) (1 ∷ 2 ∷ 3 ∷ 4 ∷ 65535 ∷ 0 ∷ []) ≡ 1 ∷ 2 ∷ 3 ∷ 3 ∷ 3 ∷ 4 ∷ []
+rows_of_lines = refl
 
 abbrev asks_of : Origin → CountStyle → Asked
 asks_of origin style = record { origin = origin; steps = 10; files = two_files; style = style }
@@ -225,3 +225,25 @@ counted_by_author : count_text (asks_of (Code by_author) styles.Table) (codes "1
     ++ codes "   total                           2\n"
 unfolding digits
 counted_by_author = refl
+
+-- code that comes from no line has a row of its own, which may be one of the costliest, made or not
+counted_of_none : count_text (asks_of (Code by_author) styles.Table) (codes "10 REM\n20 END\n")
+    (lined_functions nothing (0 ∷ 2 ∷ [])) ((3 ∷ 1 ∷ []) ∷ []) 4
+    ≡ codes "    line         times         steps  source\n"
+    ++ codes "       1                              10 REM\n"
+    ++ codes ">      2             1             1  20 END\n"
+    ++ codes ">   none             3             3  code that comes from no line\n"
+    ++ codes "   total                           4\n"
+unfolding digits
+counted_of_none = refl
+
+objects_of_none : count_text (asks_of (Code by_author) styles.Json) (codes "10 REM\n20 END\n")
+    (lined_functions nothing (0 ∷ 2 ∷ [])) ((0 ∷ 1 ∷ []) ∷ []) 1
+    ≡ codes "{\"file\":\"p.b\",\"line\":2,\"times\":1,\"steps\":1}\n" ++ codes "{\"line\":0,\"times\":0,\"steps\":0}\n"
+unfolding digits
+objects_of_none = refl
+
+none_without_steps : none_text styles.Table false (record { times = Some 0; steps = 0 })
+    ≡ codes "    none             0             0  code that comes from no line\n"
+unfolding digits
+none_without_steps = refl

@@ -1,5 +1,5 @@
 -- Promise: what comes of a program whose steps are counted.
-use Rattle.std.specs.Prelude.{◌≡◌, ℕ, ◌+◌, ◌==◌, Bool, true, false, List, Option, Some, find, map, max, min, option_map}
+use Rattle.std.specs.Prelude.{◌≡◌, ℕ, ◌+◌, ◌-◌, ◌==◌, Bool, true, false, List, Option, Some, find, map, min, option_map}
 use Rattle.std.specs.Prelude.{unwrap_or, if◌then◌else◌}
 use Rattle.std.specs.List.{enumerate_from, flat_map, range_with_len, slice_get, sum_by}
 use Rattle.bsources.specs.Files.{Files, files_shown}
@@ -59,28 +59,33 @@ line_count counted line = record { times = times_on counted line; steps = steps_
 abbrev pub with_count : LineCount → (count : ℕ) → LineCount
 with_count c count = record { times = Some (unwrap_or c.times count); steps = min (c.steps + count) most }
 
--- the counts of the first lines
-abbrev pub line_counts : List Counted → (last : ℕ) → List LineCount
-line_counts counted last = map (line_count counted) (range_with_len 1 last)
+-- the counts of the first rows
+abbrev pub line_counts : List Counted → (rows : ℕ) → List LineCount
+line_counts counted rows = map (line_count counted) (range_with_len 1 rows)
 
--- a line as the nearest of so many
-abbrev pub nearest_line : (last line : ℕ) → ℕ
-nearest_line last line = min (max line 1) last
+-- the row of a line: that of 0, which is none, is the last one, and comes after those of the lines
+abbrev pub row_of : (rows line : ℕ) → ℕ
+row_of rows line = if line == 0 then rows else min line (rows - 1)
 
 -- an instruction of a function, on its line, with how often it was made
-abbrev pub counted_at : (last : ℕ) → Option FunctionLines → (place count : ℕ) → Counted
-counted_at last f place count = record { line = nearest_line last (line_in f place); count = count }
+abbrev pub counted_at : (rows : ℕ) → Option FunctionLines → (place count : ℕ) → Counted
+counted_at rows f place count = record { line = row_of rows (line_in f place); count = count }
 
-abbrev pub counted_in : (last : ℕ) → Option FunctionLines → (counts : List ℕ) → List Counted
-counted_in last f counts = map (λ x. counted_at last f x.0 x.1) (enumerate_from 0 counts)
+abbrev pub counted_in : (rows : ℕ) → Option FunctionLines → (counts : List ℕ) → List Counted
+counted_in rows f counts = map (λ x. counted_at rows f x.0 x.1) (enumerate_from 0 counts)
 
 -- all instructions, function by function
-abbrev pub counted_of : (last : ℕ) → List FunctionLines → (tallies : List (List ℕ)) → List Counted
-counted_of last fs tallies = flat_map (λ x. counted_in last (slice_get fs x.0) x.1) (enumerate_from 0 tallies)
+abbrev pub counted_of : (rows : ℕ) → List FunctionLines → (tallies : List (List ℕ)) → List Counted
+counted_of rows fs tallies = flat_map (λ x. counted_in rows (slice_get fs x.0) x.1) (enumerate_from 0 tallies)
 
--- what the code of each line of a source did, by the lines of its functions and the counts of their instructions
+-- a row for each line of a source, and one for code that comes from none
+abbrev pub rows_of : (source : List ℕ) → ℕ
+rows_of source = last_line source + 1
+
+-- what the code of each line of a source did, and last what that of none did, by the lines of its functions and the
+-- counts of their instructions
 abbrev pub counts_by_line : (source : List ℕ) → List FunctionLines → (tallies : List (List ℕ)) → List LineCount
-counts_by_line source fs tallies = line_counts (counted_of (last_line source) fs tallies) (last_line source)
+counts_by_line source fs tallies = line_counts (counted_of (rows_of source) fs tallies) (rows_of source)
 
 abbrev pub count_text : Asked → (source : List ℕ) → List FunctionLines → (tallies : List (List ℕ)) → (made : ℕ) → List ℕ
 count_text asked source fs tallies made =

@@ -1,5 +1,5 @@
 -- Inner words: the counts of lines as they are written.
-use Rattle.std.specs.Prelude.{◌≡◌, ℕ, ◌+◌, ◌==◌, ◌&&◌, Bool, List, [], ◌++◌, Option, Some, None, codes, count_by, decimal, get_or}
+use Rattle.std.specs.Prelude.{◌≡◌, ℕ, ◌+◌, ◌-◌, ◌==◌, ◌&&◌, Bool, List, [], ◌++◌, Option, Some, None, codes, count_by, decimal, get_or}
 use Rattle.std.specs.Prelude.{is_some, length, refl, replicate, if◌then◌else◌}
 use Rattle.std.specs.List.{flat_map, range_with_len}
 use Rattle.bsources.specs.Files.{Files, Line, beyond_first, own_line}
@@ -36,12 +36,15 @@ abbrev pub cells_text : Bool → (line : ℕ) → LineCount → List ℕ
 cells_text is_marked line c =
     (if is_marked then codes ">" else codes " ") ++ right 7 (decimal line) ++ counts_text c.times c.steps
 
+-- the end of an object of JSON
+abbrev pub times_and_steps : (times steps : ℕ) → List ℕ
+times_and_steps times steps = codes ",\"times\":" ++ decimal times ++ codes ",\"steps\":" ++ decimal steps ++ codes "}\n"
+
 -- a line that has code, as an object of JSON
 abbrev pub counts_object : Line → Option ℕ → (steps : ℕ) → List ℕ
 counts_object at None steps = []
 counts_object at (Some times) steps =
-    codes "{\"file\":" ++ json_text at.file ++ codes ",\"line\":" ++ decimal at.line ++ codes ",\"times\":"
-    ++ decimal times ++ codes ",\"steps\":" ++ decimal steps ++ codes "}\n"
+    codes "{\"file\":" ++ json_text at.file ++ codes ",\"line\":" ++ decimal at.line ++ times_and_steps times steps
 
 abbrev pub object_text : Line → LineCount → List ℕ
 object_text at c = counts_object at c.times c.steps
@@ -59,6 +62,17 @@ row_after style files source lines index =
     row_text style files (index + 1) (get_or lines index no_code) (is_marked lines index)
     (get_or (source_lines source) index [])
 
+-- what code that comes from no line did, if there is some
+abbrev pub none_row : CountStyle → Bool → Option ℕ → (steps : ℕ) → List ℕ
+none_row s marked None steps = []
+none_row style.Table marked (Some times) steps =
+    (if marked then codes ">   none" else codes "    none") ++ counts_text (Some times) steps
+    ++ codes "  code that comes from no line\n"
+none_row style.Json marked (Some times) steps = codes "{\"line\":0" ++ times_and_steps times steps
+
+abbrev pub none_text : CountStyle → Bool → LineCount → List ℕ
+none_text style marked c = none_row style marked c.times c.steps
+
 abbrev pub total_of : CountStyle → (made : ℕ) → List ℕ
 total_of style.Table made = codes "   total" ++ right 28 (decimal made) ++ codes "\n"
 total_of style.Json made = []
@@ -75,8 +89,9 @@ abbrev pub hint_of : CountStyle → (is_b : Bool) → List LineCount → List �
 hint_of style.Table is_b lines = if is_b && lines_with_code lines == 1 then hint else []
 hint_of style.Json is_b lines = []
 
--- a row of each line, in order, how many steps were made, and perhaps the hint
+-- a row of each line, in order, that of code that comes from none, how many steps were made, and perhaps the hint
 abbrev pub table_text : CountStyle → (is_b : Bool) → Files → (source : List ℕ) → List LineCount → (made : ℕ) → List ℕ
 table_text style is_b files source lines made =
-    heading_of style ++ flat_map (row_after style files source lines) (range_with_len 0 (length lines))
+    heading_of style ++ flat_map (row_after style files source lines) (range_with_len 0 (length lines - 1))
+    ++ none_text style (is_marked lines (length lines - 1)) (get_or lines (length lines - 1) no_code)
     ++ total_of style made ++ hint_of style is_b lines

@@ -92,9 +92,9 @@ fn text_of(
     ensures { IfOk result (λ text. text ≡ count_text (asked_of counting.entry) source.now (lines_shown tables.now)
         (tallies_of tallies.now) made) }
 {
-    let last = last_line(source);
-    let counted = counted_of(alloc, tables, tallies, last)?;
-    let lines = lines_of(alloc, counted.as_slice(), last)?;
+    let rows = last_line(source) + 1;
+    let counted = counted_of(alloc, tables, tallies, rows)?;
+    let lines = lines_of(alloc, counted.as_slice(), rows)?;
     let table = Table {
         source,
         is_b: is_source(counting.origin),

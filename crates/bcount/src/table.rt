@@ -1,9 +1,10 @@
 //! The counts as they are written.
-ghost use Rattle.std.specs.Prelude.{◌≡◌, ◌<◌, ◌+◌, ◌++◌, IfOk, OnOk, get_or, length, option_map};
+ghost use Rattle.std.specs.Prelude.{◌≡◌, ◌<◌, ◌+◌, ◌-◌, ◌++◌, IfOk, OnOk, get_or, length, option_map};
 ghost use Rattle.bsources.specs.Files.{files_shown, line_shown};
 ghost use Rattle.bcount.specs.Marks.{no_code};
 ghost use Rattle.bcount.specs.SourceLines.{beside_text};
-ghost use Rattle.bcount.specs.Tables.{cells_text, file_row, heading_of, hint_of, lines_with_code, object_text, row_text, table_text, total_of};
+ghost use Rattle.bcount.specs.Tables.{cells_text, counts_text, file_row, heading_of, hint_of, lines_with_code, none_text, object_text};
+ghost use Rattle.bcount.specs.Tables.{row_text, table_text, times_and_steps, total_of};
 
 use crate::lines::LineCount;
 use crate::marks::{is_marked, marks_of};
@@ -29,7 +30,7 @@ pub struct Table<'a> {
     pub is_b: bool,
     pub files: SourceFiles<'a>,
     pub style: CountStyle,
-    /// What the code of each line did.
+    /// What the code of each line did, and last what code that comes from no line did.
     pub lines: &'a [LineCount],
     /// How many steps were made.
     pub made: u64,
@@ -50,12 +51,15 @@ pub fn table_text(alloc: Global, table: &Table<'_>) -> Result<Text, AllocError>
     push_heading(&mut text, table.style)?;
     let marks = marks_of(alloc, table.lines)?;
     let mut rest = table.source;
-    for index in 0..table.lines.len() {
+    let last = table.lines.len().saturating_sub(1);
+    for index in 0..last {
         let (line, after) = split_line(rest);
         rest = after;
         let is_marked = is_marked(marks.as_slice(), index);
         push_row(&mut text, table, index, is_marked, line)?;
     }
+    let is_marked = is_marked(marks.as_slice(), last);
+    push_none(&mut text, table.style, is_marked, last_of(table.lines))?;
     push_total(&mut text, table.style, table.made)?;
     push_hint(&mut text, table)?;
     Ok(text)
@@ -120,11 +124,54 @@ fn push_cells(
 {
     text.push(if is_marked { b">" } else { b" " })?;
     text.push_right_number(7, line)?;
+    push_counts(text, count)
+}
+
+fn push_counts(text: &mut Text, count: LineCount) -> Result<(), AllocError>
+    ensures { OnOk result (text.new ≡ text.old ++ counts_text count.times count.steps) }
+{
     match count.times {
         None => text.push_blanks(28),
         Some(times) => {
             text.push_right_number(14, times)?;
             text.push_right_number(14, count.steps)
+        }
+    }
+}
+
+fn last_of(lines: &[LineCount]) -> LineCount
+    ensures { result ≡ get_or lines.now (length lines.now - 1) no_code }
+{
+    match lines.last() {
+        Some(count) => *count,
+        None => LineCount {
+            times: None,
+            steps: 0,
+        },
+    }
+}
+
+// What code that comes from no line did, if there is some.
+fn push_none(
+    text: &mut Text,
+    style: CountStyle,
+    is_marked: bool,
+    count: LineCount,
+) -> Result<(), AllocError>
+    ensures { OnOk result (text.new ≡ text.old ++ none_text style is_marked count) }
+{
+    let Some(times) = count.times else {
+        return Ok(());
+    };
+    match style {
+        CountStyle::Table => {
+            text.push(if is_marked { b">   none" } else { b"    none" })?;
+            push_counts(text, count)?;
+            text.push(b"  code that comes from no line\n")
+        }
+        CountStyle::Json => {
+            text.push(b"{\"line\":0")?;
+            push_times(text, times, count.steps)
         }
     }
 }
@@ -148,10 +195,16 @@ fn push_object(text: &mut Text, at: FileLine<'_>, count: LineCount) -> Result<()
     push_quoted(text, at.file.as_bytes())?;
     text.push(b",\"line\":")?;
     text.push_number(at.line)?;
+    push_times(text, times, count.steps)
+}
+
+fn push_times(text: &mut Text, times: u64, steps: u64) -> Result<(), AllocError>
+    ensures { OnOk result (text.new ≡ text.old ++ times_and_steps times steps) }
+{
     text.push(b",\"times\":")?;
     text.push_number(times)?;
     text.push(b",\"steps\":")?;
-    text.push_number(count.steps)?;
+    text.push_number(steps)?;
     text.push(b"}\n")
 }
 

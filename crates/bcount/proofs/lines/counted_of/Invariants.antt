@@ -8,5 +8,5 @@ use Rattle.bcount.proofs.lines.counted_of.Given as goal
 -- what is still to come
 abbrev pub invariant-loop-number : goal.invariant-loop-number
 invariant-loop-number l =
-    counted_of l.last (lines_shown l.tables) (tallies_of l.tallies)
-    ≡ l.counted.items ++ from_function l.last (lines_shown l.tables) l.number (drop l.number (tallies_of l.tallies))
+    counted_of l.rows (lines_shown l.tables) (tallies_of l.tallies)
+    ≡ l.counted.items ++ from_function l.rows (lines_shown l.tables) l.number (drop l.number (tallies_of l.tallies))

@@ -5,4 +5,4 @@ use Rattle.bcount.proofs.lines.lines_of.Given as goal
 
 -- so many instructions were added to their lines
 abbrev pub invariant-loop-instruction : goal.invariant-loop-instruction
-invariant-loop-instruction l = l.lines.items ≡ map (line_count (take l.instruction-index l.counted)) (range_with_len 1 l.last)
+invariant-loop-instruction l = l.lines.items ≡ map (line_count (take l.instruction-index l.counted)) (range_with_len 1 l.rows)
