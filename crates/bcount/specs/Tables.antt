@@ -1,6 +1,6 @@
 -- Inner words: the counts of lines as they are written.
-use Rattle.std.specs.Prelude.{◌≡◌, ℕ, ◌+◌, ◌-◌, ◌==◌, ◌&&◌, Bool, List, [], ◌++◌, Option, Some, None, codes, count_by, decimal, get_or}
-use Rattle.std.specs.Prelude.{is_some, length, refl, replicate, if◌then◌else◌}
+use Rattle.std.specs.Prelude.{◌≡◌, ℕ, ◌+◌, ◌-◌, ◌==◌, ◌&&◌, Bool, List, [], ◌++◌, Option, Some, None, codes, count_by}
+use Rattle.std.specs.Prelude.{decimal, get_or, is_some, length, refl, replicate, if◌then◌else◌}
 use Rattle.std.specs.List.{flat_map, range_with_len}
 use Rattle.bsources.specs.Files.{Files, Line, beyond_first, own_line}
 use Rattle.btools.specs.Columns.{right}
@@ -38,7 +38,8 @@ cells_text is_marked line c =
 
 -- the end of an object of JSON
 abbrev pub times_and_steps : (times steps : ℕ) → List ℕ
-times_and_steps times steps = codes ",\"times\":" ++ decimal times ++ codes ",\"steps\":" ++ decimal steps ++ codes "}\n"
+times_and_steps times steps =
+    codes ",\"times\":" ++ decimal times ++ codes ",\"steps\":" ++ decimal steps ++ codes "}\n"
 
 -- a line that has code, as an object of JSON
 abbrev pub counts_object : Line → Option ℕ → (steps : ℕ) → List ℕ

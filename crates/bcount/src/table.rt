@@ -3,8 +3,8 @@ ghost use Rattle.std.specs.Prelude.{◌≡◌, ◌<◌, ◌+◌, ◌-◌, ◌++�
 ghost use Rattle.bsources.specs.Files.{files_shown, line_shown};
 ghost use Rattle.bcount.specs.Marks.{no_code};
 ghost use Rattle.bcount.specs.SourceLines.{beside_text};
-ghost use Rattle.bcount.specs.Tables.{cells_text, counts_text, file_row, heading_of, hint_of, lines_with_code, none_text, object_text};
-ghost use Rattle.bcount.specs.Tables.{row_text, table_text, times_and_steps, total_of};
+ghost use Rattle.bcount.specs.Tables.{cells_text, counts_text, file_row, heading_of, hint_of, lines_with_code};
+ghost use Rattle.bcount.specs.Tables.{none_text, object_text, row_text, table_text, times_and_steps, total_of};
 
 use crate::lines::LineCount;
 use crate::marks::{is_marked, marks_of};
@@ -44,8 +44,8 @@ const HINT: &[u8] =
 
 /// The text of the counts.
 pub fn table_text(alloc: Global, table: &Table<'_>) -> Result<Text, AllocError>
-    ensures { IfOk result (λ text. text ≡ table_text table.now.style table.now.is_b (files_shown table.now.files) table.now.source.now
-        table.now.lines.now table.now.made) }
+    ensures { IfOk result (λ text. text ≡ table_text table.now.style table.now.is_b (files_shown table.now.files)
+        table.now.source.now table.now.lines.now table.now.made) }
 {
     let mut text = Text::new(alloc);
     push_heading(&mut text, table.style)?;
