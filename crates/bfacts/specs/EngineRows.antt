@@ -29,6 +29,7 @@ use Rattle.bmatch.specs.declared.pattern.Sort.{Sort}
 use Rattle.bmatch.specs.declared.pattern.Sort.TheVariants as sort
 use Rattle.bmatch.specs.declared.pattern.Rule.{Rule}
 use Rattle.bmatch.specs.declared.pattern.RuleTable.{RuleTable}
+use Rattle.bmatch.specs.declared.pattern.Spot.TheVariants as spot
 use Rattle.bmatch.specs.declared.pattern.Step.{Step}
 use Rattle.bmatch.specs.declared.pattern.Step.TheVariants as step
 use Rattle.bmatch.specs.declared.pattern.TheConstants.{NO_HOLE, ROOT}
@@ -99,8 +100,8 @@ sight loose = sight_of_steps [] loose
 abbrev site : Site
 site = record { sight = sight true; function = span_of 0 22 }
 
-abbrev hole : ℕ → Sort → (told : Bool) → Step
-hole h s told = step.Leaf (leaf.Hole h s) told
+abbrev hole : ℕ → Sort → Step
+hole h s = step.Leaf (leaf.Hole h s)
 
 -- what two holes stand for, and what is told, of each way
 abbrev ways : List Binds → List (Option ℕ × Option ℕ × Option ℕ)
@@ -109,12 +110,18 @@ ways bs = map (λ b. (hole_of b 0, hole_of b 1, b.told)) bs
 abbrev at : (loose : Bool) → List Step → (index : ℕ) → List (Option ℕ × Option ℕ × Option ℕ)
 at loose is index = ways (fits_at (sight loose) is index nothing_bound)
 
-abbrev binary : BinOp → (told : Bool) → Step
-binary o told = step.Tree (kind.Node (node.Binary o)) told
+abbrev first_told : Step
+first_told = step.Told spot.First
+
+abbrev maker_told : Step
+maker_told = step.Told spot.Maker
+
+abbrev binary : BinOp → Step
+binary o = step.Tree (kind.Node (node.Binary o))
 
 -- $0 + $1, with the operator told, at each branch: at x + 1 alone
 abbrev sum : List Step
-sum = binary op.Add true ∷ hole 1 sort.Any false ∷ hole 0 sort.Any false ∷ step.Done ∷ step.Done ∷ []
+sum = binary op.Add ∷ maker_told ∷ hole 1 sort.Any ∷ hole 0 sort.Any ∷ step.Done ∷ step.Done ∷ []
 
 abbrev rooted : (index : ℕ) → Binds
 rooted index = with_hole (with_hole nothing_bound ROOT index) 0 index
@@ -125,7 +132,7 @@ place start len = record { line = 1; start = start; len = len }
 -- Claims: $0 is x, at the steps from 0 on; some branch of the function is, at those from 3 on a call.
 abbrev steps : List Step
 steps =
-    step.Jump 0 ∷ step.Leaf (leaf.Name (120 ∷ []) 1) false ∷ step.Done ∷ step.Tree (kind.Node node.Called) false ∷ step.Dots
+    step.Jump 0 ∷ step.Leaf (leaf.Name (120 ∷ []) 1) ∷ step.Done ∷ step.Tree (kind.Node node.Called) ∷ step.Dots
     ∷ step.Done ∷ step.Done ∷ []
 
 abbrev site_with : Site
@@ -201,7 +208,7 @@ few =
     ∷ alone node.Constant 4 4 ∷ alone node.Text 5 5 ∷ alone node.Name 2 6 ∷ [])
 
 -- Which sorts they are. What is no constant is no number, even with such a token.
-sorts_of_few : map (λ (s : Sort). map (λ index. length (fits_at (site_in few 0 6).sight (hole 0 s false ∷ step.Done
+sorts_of_few : map (λ (s : Sort). map (λ index. length (fits_at (site_in few 0 6).sight (hole 0 s ∷ step.Done
     ∷ []) index
     nothing_bound)) (range_with_len 0 7)) (sort.Text ∷ sort.Number ∷ sort.Character ∷ sort.Constant ∷ sort.Name ∷ [])
     ≡ (1 ∷ 0 ∷ 0 ∷ 0 ∷ 0 ∷ 1 ∷ 0 ∷ []) ∷ (0 ∷ 0 ∷ 1 ∷ 0 ∷ 1 ∷ 0 ∷ 0 ∷ []) ∷ (0 ∷ 1 ∷ 0 ∷ 0 ∷ 0 ∷ 0 ∷ 0 ∷ [])
@@ -240,7 +247,7 @@ same_sums : map (is_same sums_in_row 2) (2 ∷ 5 ∷ 8 ∷ 11 ∷ 14 ∷ 1 ∷ [
 same_sums = refl
 
 -- x = x + 1 changes x, not 1, nor what a hole stands for that stands for nothing; x + 1 changes nothing
-changing : map (λ (b : Binds). map (λ index. length (fits_at (sight true) (step.Leaf (leaf.Change 0) false
+changing : map (λ (b : Binds). map (λ index. length (fits_at (sight true) (step.Leaf (leaf.Change 0)
     ∷ step.Done ∷ []) index b))
     (17 ∷ 16 ∷ 14 ∷ [])) (with_hole nothing_bound 0 14 ∷ with_hole nothing_bound 0 15 ∷ nothing_bound ∷ [])
     ≡ (1 ∷ 0 ∷ 0 ∷ []) ∷ replicate 2 (replicate 3 0)
@@ -256,7 +263,7 @@ words_in_row =
     ∷ part (kind.Construct construct.Block) 0 0 0 6 6 ∷ part (kind.Node (node.Binary op.Add)) 2 1 2 7 7 ∷ [])
 
 words_alone : map (λ w. map (λ index. length (fits_at (site_in words_in_row 0 7).sight
-    (step.Leaf (leaf.Word w) false ∷ step.Done ∷ []) index nothing_bound)) (0 ∷ 1 ∷ 2 ∷ 3 ∷ 5 ∷ 6
+    (step.Leaf (leaf.Word w) ∷ step.Done ∷ []) index nothing_bound)) (0 ∷ 1 ∷ 2 ∷ 3 ∷ 5 ∷ 6
     ∷ [])) (word.Nothing ∷ word.Return ∷ [])
     ≡ (1 ∷ replicate 5 0) ∷ (0 ∷ 1 ∷ replicate 4 0) ∷ []
 words_alone = refl
@@ -268,18 +275,68 @@ begun_with : map (λ w. map (λ (index : ℕ). begins_with words_in_row (Some in
 begun_with = refl
 
 -- of the call f((x),1) its first token is told, not its bracket
-told_first : at true (hole 0 sort.Any true ∷ step.Done ∷ []) 9 ≡ (Some 9, None, Some 9) ∷ []
+told_first : at true (first_told ∷ hole 0 sort.Any ∷ step.Done ∷ []) 9 ≡ (Some 9, None, Some 9) ∷ []
 told_first = refl
 
 -- of three that are told the one that is fitted last, which stands first
-told_last : at true (binary op.Add true ∷ hole 1 sort.Any true ∷ hole 0 sort.Any true ∷ step.Done ∷ step.Done ∷ []) 16
+told_last : at true (binary op.Add ∷ maker_told ∷ first_told ∷ hole 1 sort.Any ∷ first_told
+    ∷ hole 0 sort.Any ∷ step.Done ∷ step.Done ∷ []) 16
     ≡ (Some 14, Some 15, Some 20) ∷ []
 told_last = refl
 
+-- Where two features meet. A branch with this in its parentheses, or itself.
+abbrev around : Kind → (token begin core : ℕ) → Branch
+around k token begin core =
+    record { kind = k; token = token; first = token; last = token; begin = begin; core = core; acts = false; loops = 0 }
+
+abbrev plain : Node → (token index : ℕ) → Branch
+plain n token index = around (kind.Node n) token index index
+
+abbrev sight_in : List Lexeme → List Branch → (loose : Bool) → Sight
+sight_in ls bs loose =
+    record { tree = placed [] ls [] bs; steps = record { ref_ptr = (0, 0); now = [] }; is_loose = loose }
+
+-- (!((a < b))) is a >= b, at the ! and at the parentheses around it, for a rule that is loose alone
+abbrev denied_in_two : List Branch
+denied_in_two =
+    plain node.Name 4 0 ∷ plain node.Name 6 1 ∷ around (kind.Node (node.Binary op.Lt)) 5 0 2
+    ∷ around (kind.Node node.Grouped) 3 0 2 ∷ around (kind.Node node.Grouped) 2 0 2 ∷ around (kind.Node node.Not) 1 0 5
+    ∷ around (kind.Node node.Grouped) 0 0 5 ∷ []
+
+denied_twice : map (λ (loose : Bool). map (λ (index : ℕ). ways (fits_at (sight_in [] denied_in_two loose)
+    (step.Sides (kind.Node (node.Binary op.Ge)) (kind.Node (node.Binary op.Ge)) true ∷ hole 1 sort.Any ∷ step.Done
+    ∷ hole 0 sort.Any ∷ step.Done ∷ step.Done ∷ []) index nothing_bound)) (2 ∷ 3 ∷ 4 ∷ 5 ∷ 6 ∷ [])) (true ∷ false ∷ [])
+    ≡ (replicate 3 [] ++ replicate 2 ((Some 0, Some 1, Some 5) ∷ [])) ∷ replicate 5 [] ∷ []
+denied_twice = refl
+
+-- a > b & b, but not a > b & a, is $0 < $1 & $0: the hole that comes twice is b, in whichever order the sides stand
+abbrev compared_and : (name : ℕ) → (loose : Bool) → Sight
+compared_and name =
+    sight_in (letter 97 ∷ lexeme.Operator op.Gt ∷ letter 98 ∷ lexeme.Operator op.And ∷ letter name ∷ [])
+    (plain node.Name 0 0 ∷ plain node.Name 2 1 ∷ around (kind.Node (node.Binary op.Gt)) 1 0 2 ∷ plain node.Name 4 3
+    ∷ around (kind.Node (node.Binary op.And)) 3 0 4 ∷ [])
+
+swapped_twice : map (λ (of : ℕ × Bool). ways (fits_at (compared_and of.0 of.1)
+    (step.Sides (kind.Node (node.Binary op.And)) (kind.Node (node.Binary op.And)) true ∷ hole 0 sort.Any ∷ step.Done
+    ∷ step.Sides (kind.Node (node.Binary op.Lt)) (kind.Node (node.Binary op.Lt)) false ∷ hole 1 sort.Any ∷ step.Done
+    ∷ hole 0 sort.Any ∷ step.Done ∷ step.Done ∷ step.Done ∷ []) 4 nothing_bound))
+    ((98, true) ∷ (97, true) ∷ (98, false) ∷ (97, false) ∷ []) ≡ ((Some 3, Some 0, Some 3) ∷ []) ∷ replicate 3 []
+swapped_twice = refl
+
+-- if(a) if(b) c; else d; has its else in the inner if
+else_of_inner : map (λ (index : ℕ). ways (fits_at (sight_in [] (plain node.Name 2 0
+    ∷ around (kind.Node node.Tested) 0 0 1 ∷ plain node.Name 6 2 ∷ around (kind.Node node.Tested) 4 2 3
+    ∷ around (kind.Construct construct.Plain) 8 4 4 ∷ around (kind.Construct construct.Plain) 11 5 5
+    ∷ around (kind.Construct construct.If) 4 2 6 ∷ around (kind.Construct construct.If) 0 0 7 ∷ []) true)
+    (step.Tree (kind.Construct construct.If) ∷ step.Told spot.Else ∷ hole 2 sort.Any ∷ hole 1 sort.Any
+    ∷ step.Tree (kind.Node node.Tested) ∷ hole 0 sort.Any ∷ step.Done ∷ step.Done ∷ step.Done ∷ [])
+    index nothing_bound)) (6 ∷ 7 ∷ []) ≡ ((Some 2, Some 4, Some 10) ∷ []) ∷ [] ∷ []
+else_of_inner = refl
+
 -- nothing is before x + 1 in itself, where x = stands before it; and past the last branch is none
-no_more_rows : at true (binary op.Add false ∷ hole 1 sort.Any false ∷ hole 0 sort.Any false
-    ∷ step.Tree (kind.Node node.Name) false
-    ∷ step.Done ∷ step.Done ∷ step.Done ∷ []) 16 ++ at true (hole 0 sort.Any false ∷ step.Done ∷ []) 22 ≡ []
+no_more_rows : at true (binary op.Add ∷ hole 1 sort.Any ∷ hole 0 sort.Any
+    ∷ step.Tree (kind.Node node.Name)
+    ∷ step.Done ∷ step.Done ∷ step.Done ∷ []) 16 ++ at true (hole 0 sort.Any ∷ step.Done ∷ []) 22 ≡ []
 no_more_rows = refl
 
 no_span : hole_span site (Some 21) ∷ hole_span site (Some 22) ∷ hole_span site None ∷ [] ≡ span_of 0 22
@@ -373,8 +430,8 @@ set_to value begin end =
         tree = set_twice;
         steps = record {
           ref_ptr = (0, 0);
-          now = step.Tree (kind.Node (node.Assigned None)) false ∷ step.Leaf (leaf.Value value) false
-              ∷ hole 1 sort.Any false ∷ step.Done ∷ step.Done ∷ [];
+          now = step.Tree (kind.Node (node.Assigned None)) ∷ step.Leaf (leaf.Value value)
+              ∷ hole 1 sort.Any ∷ step.Done ∷ step.Done ∷ [];
         };
         is_loose = true;
       };
@@ -554,14 +611,14 @@ abbrev notice : (number token : ℕ) → (named beside : Option ℕ) → Notice
 notice number token named beside = record { rule = number; token = token; named = named; beside = beside }
 
 -- the names of a notice, and one notice for each way
-whole_notice : notices_by tree (table_of (binary op.Add true ∷ step.Either 2 ∷ hole 1 sort.Any false ∷ step.Jump 1
-    ∷ hole 2 sort.Any false
-    ∷ hole 0 sort.Any false ∷ step.Done ∷ step.Done ∷ []) (sum_rule ∷ []))
+whole_notice : notices_by tree (table_of (binary op.Add ∷ maker_told ∷ step.Either 2 ∷ hole 1 sort.Any ∷ step.Jump 1
+    ∷ hole 2 sort.Any
+    ∷ hole 0 sort.Any ∷ step.Done ∷ step.Done ∷ []) (sum_rule ∷ []))
     ≡ notice 1 21 (Some 20) (Some 22) ∷ notice 1 21 (Some 20) None ∷ []
 whole_notice = refl
 
 -- x in parentheses is a name for a loose rule, and for no other
-strict_notices : map (λ (loose : Bool). map told_notice (notices_by tree (table_of (hole 0 sort.Name false
+strict_notices : map (λ (loose : Bool). map told_notice (notices_by tree (table_of (hole 0 sort.Name
     ∷ step.Done ∷ [])
     (record sum_rule { is_loose = loose } ∷ [])))) (true ∷ false ∷ [])
     ≡ map (map (λ (n : ℕ). (1, n))) ((0 ∷ 2 ∷ 7 ∷ 9 ∷ 12 ∷ 11 ∷ 18 ∷ 20 ∷ []) ∷ (0 ∷ 2 ∷ 7 ∷ 9 ∷ 12 ∷ 18 ∷ 20 ∷ [])
@@ -569,8 +626,8 @@ strict_notices : map (λ (loose : Bool). map told_notice (notices_by tree (table
 strict_notices = refl
 
 -- each rule in each function, in the order of the rules, then of the functions: of each name, and of each definition
-in_order : map told_notice (notices_by three (table_of (hole 0 sort.Name false ∷ step.Done
-    ∷ step.Tree (kind.Construct construct.Definition) false ∷ step.Dots ∷ step.Done ∷ step.Done ∷ [])
+in_order : map told_notice (notices_by three (table_of (hole 0 sort.Name ∷ step.Done
+    ∷ step.Tree (kind.Construct construct.Definition) ∷ step.Dots ∷ step.Done ∷ step.Done ∷ [])
     (sum_rule ∷ record sum_rule { number = 2; pattern = 2 } ∷ [])))
     ≡ map (λ (n : ℕ). (1, n)) (1 ∷ 2 ∷ 3 ∷ 5 ∷ 6 ∷ 7 ∷ 10 ∷ []) ++ map (λ (n : ℕ). (2, n)) (1 ∷ 5 ∷ 10 ∷ [])
 unfolding ends_of
@@ -592,7 +649,7 @@ passed_over_far : map (λ (far : Bool). map (λ (n : ℕ). is_passed_over (long 
 passed_over_far = refl
 
 -- a short function is looked at by a rule that looks around
-looked_around : length (function_notices tree (table_of (hole 0 sort.Name false ∷ step.Done
+looked_around : length (function_notices tree (table_of (hole 0 sort.Name ∷ step.Done
     ∷ []) []) (record sum_rule { looks_around = true })
     (span_of 0 3)) ∷ [] ≡ 3 ∷ []
 looked_around = refl
@@ -621,7 +678,7 @@ starred o =
     ∷ record (over (kind.Node node.Grouped) 0 3) { core = 2 } ∷ over (kind.Node node.Indirection) 0 4 ∷ []
 
 stars_for_indexes : map (λ (pair : Bool × BinOp). ways (fits_in (record (site_in (placed [] [] [] (starred pair.1)) 0 5).sight
-    { is_loose = pair.0 }) 0 (step.Tree (kind.Node node.Indexed) false ∷ hole 1 sort.Any false ∷ hole 0 sort.Any false
+    { is_loose = pair.0 }) 0 (step.Tree (kind.Node node.Indexed) ∷ hole 1 sort.Any ∷ hole 0 sort.Any
     ∷ step.Done ∷ step.Done ∷ []) 0 5 [] nothing_bound)) ((true, op.Add) ∷ (true, op.Sub) ∷ (false, op.Add) ∷ [])
     ≡ ((Some 0, Some 1, None) ∷ []) ∷ [] ∷ [] ∷ []
 stars_for_indexes = refl
@@ -654,7 +711,7 @@ told_of_nothing : told_token tree nothing_bound ≡ 0
 told_of_nothing = refl
 
 -- a value is one of a constant alone
-values_fit : map (λ index. length (fits_at (site_in few 0 6).sight (step.Leaf (leaf.Value 65) false ∷ step.Done
+values_fit : map (λ index. length (fits_at (site_in few 0 6).sight (step.Leaf (leaf.Value 65) ∷ step.Done
     ∷ []) index nothing_bound))
     (range_with_len 0 7) ≡ 0 ∷ 1 ∷ 1 ∷ replicate 4 0
 values_fit = refl
@@ -685,7 +742,7 @@ sought_around = refl
 
 sought_in_second : map (λ (b : Binds). hole_of b 1) (holds_in (record (site_in three 4 9) {
   sight = record (site_in three 4 9).sight {
-    steps = record { ref_ptr = (0, 0); now = hole 2 sort.Name false ∷ step.Done ∷ [] };
+    steps = record { ref_ptr = (0, 0); now = hole 2 sort.Name ∷ step.Done ∷ [] };
   };
 }) 0
     (claim.Some scope.Function 1 0 ∷ claim.End ∷ []) nothing_bound) ≡ map Some (4 ∷ 5 ∷ 6 ∷ [])

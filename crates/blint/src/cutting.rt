@@ -85,7 +85,8 @@ fn ends_elsewhere(program: &Program<'_>, comment: &PlacedPiece) -> bool {
         return false;
     }
     let text = program.text.get(comment.first..comment.end).unwrap_or(&[]);
-    let last = comment.line.saturating_add(newlines(text));
+    let newlines = text.iter().filter(|byte| **byte == b'\n').count();
+    let last = comment.line.saturating_add(newlines as u64);
     files.beyond_first(last).is_some()
 }
 
@@ -96,14 +97,4 @@ fn opening(comment: &PlacedPiece) -> TokenPlace {
         start: comment.first,
         len: 2,
     }
-}
-
-fn newlines(text: &[u8]) -> u64 {
-    let mut count: u64 = 0;
-    for byte in text {
-        if *byte == b'\n' {
-            count = count.saturating_add(1);
-        }
-    }
-    count
 }

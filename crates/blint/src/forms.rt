@@ -9,9 +9,6 @@ use btree::Node;
 use bword::BinOp;
 use std::alloc::{AllocError, Global};
 
-/// The most values that are looked at.
-const MOST_VALUES: usize = 7;
-
 /// What a value is for.
 #[derive(Clone, Copy, PartialEq, Eq)]
 enum Use {
@@ -82,7 +79,7 @@ fn of_another_kind(
     items: &[u8],
     values: &[usize],
 ) -> Option<Remark> {
-    for place in 0..MOST_VALUES {
+    for place in 0..values.len() {
         let value = *values.get(place)?;
         let is_wrong = match (*items.get(place)?, use_of(tree, locals, value)) {
             (b's', Use::Number | Use::Character) => true,

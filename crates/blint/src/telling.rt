@@ -79,10 +79,7 @@ fn tell_other(
 ) -> Result<(), AllocError>
     ensures { IfOk result (λ done. TellsOthers other.now.place.start cautions.old.items cautions.new.items) }
 {
-    if is_noticed {
-        return Ok(());
-    }
-    if is_of_rules(other.warning) {
+    if is_noticed || is_of_rules(other.warning) {
         return Ok(());
     }
     tell(cautions, other)
@@ -114,30 +111,20 @@ fn tell_due(
 
 // The name of which a notice speaks.
 fn name_of(tokens: &Tokens<'_>, notice: &Option<Notice>) -> Option<Name> {
-    match notice {
-        Some(notice) => tokens.name(notice.named.unwrap_or(notice.token)),
-        None => None,
-    }
+    let notice = (*notice)?;
+    tokens.name(notice.named.unwrap_or(notice.token))
 }
 
 // The second place of a notice.
 fn related_of(tokens: &Tokens<'_>, notice: &Option<Notice>) -> Option<TokenPlace> {
-    match notice {
-        Some(notice) => notice.beside.map(|token| tokens.place(token)),
-        None => None,
-    }
+    Some(tokens.place((*notice)?.beside?))
 }
 
 fn tell(cautions: &mut Vec<Caution>, caution: &Caution) -> Result<(), AllocError>
     ensures { IfOk result (λ done. cautions.new.items ≡ with_caution caution.now cautions.old.items) }
 {
     if cautions.len() < MOST_CAUTIONS {
-        cautions.push(Caution {
-            warning: caution.warning,
-            name: caution.name,
-            place: caution.place,
-            related: caution.related,
-        })?;
+        cautions.push(*caution)?;
     }
     Ok(())
 }

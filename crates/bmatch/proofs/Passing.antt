@@ -1,7 +1,7 @@
--- A row of patterns fits before one branch more that is left out.
+-- A row of patterns fits before one branch more that is left out; one number more of a range was passed.
 use Rattle.std.proofs.Common.{◌≡◌, ◌∙◌, ℕ, suc, ◌+◌, ◌-◌, ◌<◌, ◌≤◌, List, [], ◌∷◌, ◌++◌, ap, append_assoc, append-nil, arith, nat_lt, refl, sym}
 use Rattle.std.proofs.lemmas.Bool.{cond-false, cond-true, le-ltb, lt-ltb}
-use Rattle.std.specs.List.{flat_map}
+use Rattle.std.specs.List.{flat_map, range_with_len}
 use Rattle.bmatch.specs.Fits.{ends_of, start_of}
 use Rattle.bmatch.specs.declared.binds.Binds.{Binds}
 use Rattle.bmatch.specs.declared.tree.Branch.{Branch}
@@ -38,3 +38,11 @@ none_more f rows most n begin end found all l inv =
     let left : most - n ≡ 0 = omega arith in
     let ends : ends_of rows (most - n) begin end ≡ [] = ap (λ m. ends_of rows m begin end) left ∙ ends_none rows begin end in
     sym (append-nil found) ∙ (ap (λ es. found ++ flat_map f es) (sym ends) ∙ inv)
+
+pub range_turn : {A : Type 0} (f : ℕ → List A) (end i : ℕ) (found new all : List A) → i < end → new ≡ found ++ f i → found ++ flat_map f (range_with_len i (end - i)) ≡ all
+    → new ++ flat_map f (range_with_len (i + 1) (end - (i + 1))) ≡ all
+range_turn f end i found new all l ew inv =
+    let k = end - (i + 1) in
+    let left : end - i ≡ suc k = omega arith in
+    let more : range_with_len i (end - i) ≡ i ∷ range_with_len (i + 1) k = ap (range_with_len i) left in
+    ap (λ x. x ++ flat_map f (range_with_len (i + 1) k)) ew ∙ (append_assoc found (f i) (flat_map f (range_with_len (i + 1) k)) ∙ (ap (λ es. found ++ flat_map f es) (sym more) ∙ inv))

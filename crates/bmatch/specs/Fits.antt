@@ -14,7 +14,7 @@ use Rattle.bmatch.specs.declared.binds.Binds.{Binds}
 use Rattle.bmatch.specs.declared.fits.EitherWay.{EitherWay}
 use Rattle.bmatch.specs.declared.fits.Left.{Left}
 use Rattle.bmatch.specs.declared.fits.Left.TheVariants as left_is
-use Rattle.bmatch.specs.declared.fits.Sides.{Sides}
+use Rattle.bmatch.specs.declared.fits.Rows.{Rows}
 use Rattle.bmatch.specs.declared.fits.Sight.{Sight}
 use Rattle.bmatch.specs.declared.fits.Span.{Span}
 use Rattle.bmatch.specs.declared.fits.TheConstants.{MOST_PASSED}
@@ -22,6 +22,8 @@ use Rattle.bmatch.specs.declared.pattern.Leaf.{Leaf}
 use Rattle.bmatch.specs.declared.pattern.Leaf.TheVariants as leaf
 use Rattle.bmatch.specs.declared.pattern.Sort.{Sort}
 use Rattle.bmatch.specs.declared.pattern.Sort.TheVariants as sort
+use Rattle.bmatch.specs.declared.pattern.Spot.{Spot}
+use Rattle.bmatch.specs.declared.pattern.Spot.TheVariants as spot
 use Rattle.bmatch.specs.declared.pattern.Step.{Step}
 use Rattle.bmatch.specs.declared.pattern.Step.TheVariants as step
 use Rattle.bmatch.specs.declared.pattern.Word.{Word}
@@ -137,13 +139,17 @@ abbrev pub index_for : Sight → (asked : Kind) → (index : ℕ) → ℕ
 index_for s asked index =
     if is_some (other_kind s asked index) then (branch_at s.tree.rows.now (index - 1)).core else index
 
--- the branches in the last one of a row, if it is of such a kind
-abbrev pub inner_of : Sight → (first last : Kind) → (begin end : ℕ) → Option Span
+abbrev pub rows_from : (one other : Span) → Rows
+rows_from one other = record { one = one; other = other }
+
+-- the branches in the last one of a row, if it is of such a kind, and then those before it
+abbrev pub inner_of : Sight → (first last : Kind) → (begin end : ℕ) → Option Rows
 inner_of s first last begin end =
     let seen = seen_at s (is_grouped first) end in
     let index = index_for s first seen in
     if nat_lt begin end && is_between first last (kind_for s first seen)
-    then Some (span_of (branch_at s.tree.rows.now index).begin index) else None
+    then Some (rows_from (span_of (branch_at s.tree.rows.now index).begin index)
+    (span_of begin (start_of s.tree.rows.now end))) else None
 
 -- the last branch that ends here is of such a kind
 abbrev pub is_seen : Sight → (first last : Kind) → (end : ℕ) → Bool
@@ -168,18 +174,15 @@ sees_sides s first last end =
     let k = kind_for s first (seen_at s false end) in
     has_sides s false first last k || has_sides s true first last k
 
-abbrev pub sides_from : (one other : Span) → Sides
-sides_from one other = record { one = one; other = other }
-
 -- the two sides of the last branch of a row, the right one first, or last where they are exchanged
-abbrev pub sides_of : Sight → (is_exchanged : Bool) → (first last : Kind) → (begin end : ℕ) → Option Sides
+abbrev pub sides_of : Sight → (is_exchanged : Bool) → (first last : Kind) → (begin end : ℕ) → Option Rows
 sides_of s is_exchanged first last begin end =
     let seen = seen_at s false end in
     let index = index_for s first seen in
     let left = span_of (branch_at s.tree.rows.now index).begin (start_of s.tree.rows.now index) in
     let right = span_of (start_of s.tree.rows.now index) index in
     if nat_lt begin end && has_sides s is_exchanged first last (kind_for s first seen)
-    then Some (if is_exchanged then sides_from left right else sides_from right left)
+    then Some (if is_exchanged then rows_from left right else rows_from right left)
     else None
 
 abbrev pub either_way : Sight → (first last : Kind) → (begin end : ℕ) → EitherWay
@@ -190,20 +193,6 @@ either_way s first last begin end =
       before = span_of begin (start_of s.tree.rows.now end);
       token = (branch_at s.tree.rows.now (index_for s first (seen_at s false end))).token;
     }
-
--- Steps whose first one asks for another kind than the last branch that ends here fit nothing there.
-abbrev pub may_begin : Sight → (passed : ℕ) → List Step → (end : ℕ) → Bool
-may_begin s n [] end = false
-may_begin s (suc n) (i ∷ is) end = may_begin s n is end
-may_begin s zero (step.Tree k told ∷ is) end = is_seen s k k end
-may_begin s zero (step.Range k last told ∷ is) end = is_seen s k last end
-may_begin s zero (step.Sides k last told ∷ is) end = sees_sides s k last end
-may_begin s zero (step.Either n ∷ is) end = may_begin s zero is end || may_begin s n is end
-may_begin s zero (step.Jump n ∷ is) end = may_begin s n is end
-may_begin s zero (step.Done ∷ is) end = true
-may_begin s zero (step.Leaf l told ∷ is) end = true
-may_begin s zero (step.Else ∷ is) end = true
-may_begin s zero (step.Dots ∷ is) end = true
 
 abbrev pub is_plain : Kind → Bool
 is_plain (kind.Construct construct.Plain) = true
@@ -236,12 +225,29 @@ leaf_binds tree (leaf.Change hole) index b = if changes_hole tree (hole_of b hol
 leaf_binds tree (leaf.Hole hole sort) index b =
     if is_sort tree (branch_at tree.rows.now index) sort then with_same tree b hole index else None
 
+-- Steps whose first one asks for another kind or leaf than the last branch that ends here fit nothing there.
+abbrev pub may_begin : Sight → (passed : ℕ) → List Step → (end : ℕ) → Binds → Bool
+may_begin s n [] end b = false
+may_begin s (suc n) (i ∷ is) end b = may_begin s n is end b
+may_begin s zero (step.Tree k ∷ is) end b = is_seen s k k end
+may_begin s zero (step.Range k last ∷ is) end b = is_seen s k last end
+may_begin s zero (step.Sides k last told ∷ is) end b = sees_sides s k last end
+may_begin s zero (step.Leaf l ∷ is) end b = is_some (leaf_binds s.tree l (seen_at s false end) b)
+may_begin s zero (step.Either n ∷ is) end b = may_begin s zero is end b || may_begin s n is end b
+may_begin s zero (step.Jump n ∷ is) end b = may_begin s n is end b
+may_begin s zero (step.Done ∷ is) end b = true
+may_begin s zero (step.Told t ∷ is) end b = true
+may_begin s zero (step.Dots ∷ is) end b = true
+
 -- what holes stand for where the last branch of a row is this
-abbrev pub with_leaf : Sight → Leaf → (told : Bool) → (begin end : ℕ) → Binds → Option Binds
-with_leaf s l told begin end b =
-    let index = seen_at s false end in
-    if nat_lt begin end
-    then leaf_binds s.tree l index (with_told b told (branch_at s.tree.rows.now index).first) else None
+abbrev pub with_leaf : Sight → Leaf → (begin end : ℕ) → Binds → Option Binds
+with_leaf s l begin end b = if nat_lt begin end then leaf_binds s.tree l (seen_at s false end) b else None
+
+-- the token that is told where a row ends here
+abbrev pub token_told : Sight → Spot → (end : ℕ) → ℕ
+token_told s spot.First end = (branch_at s.tree.rows.now (seen_at s false end)).first
+token_told s spot.Maker end = (branch_at s.tree.rows.now end).token
+token_told s spot.Else end = (branch_at s.tree.rows.now (end - 1)).first - 1
 
 abbrev pub go_in : {A : Type 0} → Option A → (A → List Binds) → List Binds
 go_in None go = []
@@ -255,24 +261,20 @@ fits_in s (suc n) (i ∷ is) begin end rows b = fits_in s n is begin end rows b
 fits_in s zero (step.Done ∷ is) begin end [] b = if nat_lt begin end then [] else b ∷ []
 fits_in s zero (step.Done ∷ is) begin end (row ∷ rows) b =
     if nat_lt begin end then [] else fits_in s zero is row.begin row.end rows b
-fits_in s zero (step.Tree k told ∷ is) begin end rows b =
-    go_in (inner_of s k k begin end) (λ inner.
-    fits_in s zero is inner.begin inner.end (span_of begin (start_of s.tree.rows.now end) ∷ rows)
-    (with_told b told (branch_at s.tree.rows.now inner.end).token))
-fits_in s zero (step.Range k last told ∷ is) begin end rows b =
-    go_in (inner_of s k last begin end) (λ inner.
-    fits_in s zero is inner.begin inner.end (span_of begin (start_of s.tree.rows.now end) ∷ rows)
-    (with_told b told (branch_at s.tree.rows.now inner.end).token))
+fits_in s zero (step.Tree k ∷ is) begin end rows b =
+    go_in (inner_of s k k begin end) (λ x. fits_in s zero is x.one.begin x.one.end (x.other ∷ rows) b)
+fits_in s zero (step.Range k last ∷ is) begin end rows b =
+    go_in (inner_of s k last begin end) (λ x. fits_in s zero is x.one.begin x.one.end (x.other ∷ rows) b)
 fits_in s zero (step.Sides k last told ∷ is) begin end rows b =
     let way = either_way s k last begin end in
     go_in way.plain (λ x.
     fits_in s zero is x.one.begin x.one.end (x.other ∷ way.before ∷ rows) (with_told b told way.token))
     ++ go_in way.exchanged (λ x.
     fits_in s zero is x.one.begin x.one.end (x.other ∷ way.before ∷ rows) (with_told b told way.token))
-fits_in s zero (step.Leaf l told ∷ is) begin end rows b =
-    go_in (with_leaf s l told begin end b) (fits_in s zero is begin (start_of s.tree.rows.now end) rows)
-fits_in s zero (step.Else ∷ is) begin end rows b =
-    fits_in s zero is begin end rows (with_told b true ((branch_at s.tree.rows.now (end - 1)).first - 1))
+fits_in s zero (step.Leaf l ∷ is) begin end rows b =
+    go_in (with_leaf s l begin end b) (fits_in s zero is begin (start_of s.tree.rows.now end) rows)
+fits_in s zero (step.Told t ∷ is) begin end rows b =
+    fits_in s zero is begin end rows (with_told b true (token_told s t end))
 fits_in s zero (step.Dots ∷ is) begin end rows b =
     flat_map (λ e. fits_in s zero is begin e rows b) (ends_of s.tree.rows.now MOST_PASSED begin end)
 fits_in s zero (step.Either n ∷ is) begin end rows b =

@@ -33,6 +33,7 @@ use Rattle.bmatch.specs.declared.pattern.Sort.{Sort}
 use Rattle.bmatch.specs.declared.pattern.Sort.TheVariants as sort
 use Rattle.bmatch.specs.declared.pattern.Rule.{Rule}
 use Rattle.bmatch.specs.declared.pattern.RuleTable.{RuleTable}
+use Rattle.bmatch.specs.declared.pattern.Spot.TheVariants as spot
 use Rattle.bmatch.specs.declared.pattern.Step.{Step}
 use Rattle.bmatch.specs.declared.pattern.Step.TheVariants as step
 use Rattle.bmatch.specs.declared.pattern.TheConstants.{MOST_HOLES, NO_HOLE, ROOT}
@@ -136,8 +137,8 @@ sight loose = sight_of_steps [] loose
 abbrev site : Site
 site = record { sight = sight true; function = span_of 0 22 }
 
-abbrev hole : ℕ → Sort → (told : Bool) → Step
-hole h s told = step.Leaf (leaf.Hole h s) told
+abbrev hole : ℕ → Sort → Step
+hole h s = step.Leaf (leaf.Hole h s)
 
 -- what two holes stand for, and what is told, of each way
 abbrev ways : List Binds → List (Option ℕ × Option ℕ × Option ℕ)
@@ -146,30 +147,36 @@ ways bs = map (λ b. (hole_of b 0, hole_of b 1, b.told)) bs
 abbrev at : (loose : Bool) → List Step → (index : ℕ) → List (Option ℕ × Option ℕ × Option ℕ)
 at loose is index = ways (fits_at (sight loose) is index nothing_bound)
 
-abbrev binary : BinOp → (told : Bool) → Step
-binary o told = step.Tree (kind.Node (node.Binary o)) told
+abbrev told_first : Step
+told_first = step.Told spot.First
+
+abbrev told_maker : Step
+told_maker = step.Told spot.Maker
+
+abbrev binary : BinOp → Step
+binary o = step.Tree (kind.Node (node.Binary o))
 
 -- $0 + $1, with the operator told, at each branch: at x + 1 alone
 abbrev sum : List Step
-sum = binary op.Add true ∷ hole 1 sort.Any false ∷ hole 0 sort.Any false ∷ step.Done ∷ step.Done ∷ []
+sum = binary op.Add ∷ told_maker ∷ hole 1 sort.Any ∷ hole 0 sort.Any ∷ step.Done ∷ step.Done ∷ []
 
 sum_fits : flat_map (at true sum) (range_with_len 0 22) ≡ (Some 14, Some 15, Some 21) ∷ []
 sum_fits = refl
 
 -- $0 + $0 and $0 - $1 fit nothing; $0 + 1 and $0 + 2
 same_fits : map (λ (is : List Step). at true is 16)
-    ((binary op.Add false ∷ hole 0 sort.Any false ∷ hole 0 sort.Any false ∷ step.Done ∷ step.Done ∷ [])
-    ∷ (binary op.Sub false ∷ hole 1 sort.Any false ∷ hole 0 sort.Any false ∷ step.Done ∷ step.Done ∷ [])
-    ∷ (binary op.Add false ∷ step.Leaf (leaf.Value 1) true ∷ hole 0 sort.Name false ∷ step.Done ∷ step.Done ∷ [])
-    ∷ (binary op.Add false ∷ step.Leaf (leaf.Value 2) true ∷ hole 0 sort.Name false ∷ step.Done ∷ step.Done ∷ []) ∷ [])
+    ((binary op.Add ∷ hole 0 sort.Any ∷ hole 0 sort.Any ∷ step.Done ∷ step.Done ∷ [])
+    ∷ (binary op.Sub ∷ hole 1 sort.Any ∷ hole 0 sort.Any ∷ step.Done ∷ step.Done ∷ [])
+    ∷ (binary op.Add ∷ told_first ∷ step.Leaf (leaf.Value 1) ∷ hole 0 sort.Name ∷ step.Done ∷ step.Done ∷ [])
+    ∷ (binary op.Add ∷ told_first ∷ step.Leaf (leaf.Value 2) ∷ hole 0 sort.Name ∷ step.Done ∷ step.Done ∷ []) ∷ [])
     ≡ [] ∷ [] ∷ ((Some 14, None, Some 22) ∷ []) ∷ [] ∷ []
 same_fits = refl
 
 -- a range of kinds with +, the operator told: + alone, one that begins with it, one that ends with it, one around it; and
 -- those that end before it, begin after it, or end before they begin
 abbrev in_range : (first last : BinOp) → List Step
-in_range first last = step.Range (kind.Node (node.Binary first)) (kind.Node (node.Binary last)) true
-    ∷ hole 1 sort.Any false ∷ hole 0 sort.Any false ∷ step.Done ∷ step.Done ∷ []
+in_range first last = step.Range (kind.Node (node.Binary first)) (kind.Node (node.Binary last)) ∷ told_maker
+    ∷ hole 1 sort.Any ∷ hole 0 sort.Any ∷ step.Done ∷ step.Done ∷ []
 
 ranges_fit : map (λ (pair : BinOp × BinOp). at true (in_range pair.0 pair.1) 16)
     ((op.Add, op.Add) ∷ (op.Add, op.Rem) ∷ (op.Sub, op.Add) ∷ (op.Sub, op.Rem) ∷ (op.Shr, op.Sub) ∷ (op.Rem, op.Div)
@@ -178,7 +185,7 @@ ranges_fit : map (λ (pair : BinOp × BinOp). at true (in_range pair.0 pair.1) 1
 ranges_fit = refl
 
 -- the same by the heads of steps; and from the first operator to the loop what is between: loop, +, block, definition
-ranges_begin : map (λ (pair : BinOp × BinOp). may_begin (sight true) 0 (in_range pair.0 pair.1) 17)
+ranges_begin : map (λ (pair : BinOp × BinOp). may_begin (sight true) 0 (in_range pair.0 pair.1) 17 nothing_bound)
     ((op.Add, op.Add) ∷ (op.Add, op.Rem) ∷ (op.Sub, op.Add) ∷ (op.Sub, op.Rem) ∷ (op.Shr, op.Sub) ∷ (op.Rem, op.Div)
     ∷ (op.Rem, op.Sub) ∷ [])
     ≡ true ∷ true ∷ true ∷ true ∷ false ∷ false ∷ false ∷ []
@@ -186,15 +193,21 @@ ranges_begin = refl
 
 -- the sides of x + 1 in each order, and in one alone where the rule is exact; and the heads of such steps
 abbrev sum_in_sides : List Step
-sum_in_sides = step.Sides (kind.Node (node.Binary op.Add)) (kind.Node (node.Binary op.Rem)) true ∷ hole 1 sort.Any false
-    ∷ step.Done ∷ hole 0 sort.Any false ∷ step.Done ∷ step.Done ∷ []
+sum_in_sides = step.Sides (kind.Node (node.Binary op.Add)) (kind.Node (node.Binary op.Rem)) true ∷ hole 1 sort.Any
+    ∷ step.Done ∷ hole 0 sort.Any ∷ step.Done ∷ step.Done ∷ []
 
 sides_fit : map (λ (loose : Bool). at loose sum_in_sides 16) (true ∷ false ∷ [])
     ≡ ((Some 14, Some 15, Some 21) ∷ (Some 15, Some 14, Some 21) ∷ []) ∷ ((Some 14, Some 15, Some 21) ∷ []) ∷ []
 sides_fit = refl
 
-sides_begin : map (may_begin (sight true) 0 sum_in_sides) (16 ∷ 17 ∷ 18 ∷ []) ≡ false ∷ true ∷ false ∷ []
+sides_begin : map (λ end. may_begin (sight true) 0 sum_in_sides end nothing_bound) (16 ∷ 17 ∷ 18 ∷ [])
+    ≡ false ∷ true ∷ false ∷ []
 sides_begin = refl
+
+-- x and 1 where the hole stands for another x
+leaves_begin : map (λ end. may_begin (sight true) 0 (hole 0 sort.Any ∷ []) end (with_hole nothing_bound 0 13))
+    (15 ∷ 16 ∷ []) ≡ true ∷ false ∷ []
+leaves_begin = refl
 
 -- < and > change places, and <= and >=
 mirrored_operators : map (λ o. kind_number (mirrored (kind.Node (node.Binary o)))) operators
@@ -216,37 +229,37 @@ kinds_within : map (λ (k : Node × Node × Node). option_map kind_number
     ≡ Some 4 ∷ Some 28 ∷ replicate 6 None
 kinds_within = refl
 
-range_of_two : flat_map (at true (step.Range (kind.Node (node.Binary op.Or)) (kind.Construct construct.While) true
-    ∷ step.Dots ∷ step.Done ∷ step.Done ∷ [])) (range_with_len 0 22)
+range_of_two : flat_map (at true (step.Range (kind.Node (node.Binary op.Or)) (kind.Construct construct.While)
+    ∷ told_maker ∷ step.Dots ∷ step.Done ∷ step.Done ∷ [])) (range_with_len 0 22)
     ≡ map (λ token. (None, None, Some token)) (5 ∷ 21 ∷ 4 ∷ 0 ∷ [])
 unfolding ends_of
 range_of_two = refl
 
 -- $0 = $0 + .., where what stands left and right is the same name
-assigned_fits : at true (step.Tree (kind.Node (node.Assigned None)) false ∷ binary op.Add false
-    ∷ hole 1 sort.Constant false ∷ hole 0 sort.Any false ∷ step.Done ∷ hole 0 sort.Any true ∷ step.Done ∷ step.Done ∷ []) 17
+assigned_fits : at true (step.Tree (kind.Node (node.Assigned None)) ∷ binary op.Add
+    ∷ hole 1 sort.Constant ∷ hole 0 sort.Any ∷ step.Done ∷ told_first ∷ hole 0 sort.Any ∷ step.Done ∷ step.Done ∷ []) 17
     ≡ (Some 14, Some 15, Some 18) ∷ []
 assigned_fits = refl
 
 -- the name x, of one byte of two and of two; and a row that isn't over, or whose steps aren't
 names_fit : map (λ (is : List Step). length (at true is 14))
-    ((step.Leaf (leaf.Name (120 ∷ 121 ∷ []) 1) false ∷ step.Done ∷ [])
-    ∷ (step.Leaf (leaf.Name (120 ∷ 121 ∷ []) 2) false ∷ step.Done ∷ []) ∷ (step.Leaf (leaf.Name [] 0) false ∷ step.Done ∷ [])
-    ∷ (step.Done ∷ []) ∷ (hole 0 sort.Any false ∷ []) ∷ (hole 0 sort.Any false ∷ hole 1 sort.Any false ∷ step.Done ∷ []) ∷ [])
+    ((step.Leaf (leaf.Name (120 ∷ 121 ∷ []) 1) ∷ step.Done ∷ [])
+    ∷ (step.Leaf (leaf.Name (120 ∷ 121 ∷ []) 2) ∷ step.Done ∷ []) ∷ (step.Leaf (leaf.Name [] 0) ∷ step.Done ∷ [])
+    ∷ (step.Done ∷ []) ∷ (hole 0 sort.Any ∷ []) ∷ (hole 0 sort.Any ∷ hole 1 sort.Any ∷ step.Done ∷ []) ∷ [])
     ≡ 1 ∷ 0 ∷ 0 ∷ 0 ∷ 0 ∷ 0 ∷ []
 names_fit = refl
 
 -- a name in parentheses is a name for a rule that is loose, and for no other
-parentheses : map (λ (loose : Bool). at loose (hole 0 sort.Name true ∷ step.Done ∷ []) 7)
+parentheses : map (λ (loose : Bool). at loose (told_first ∷ hole 0 sort.Name ∷ step.Done ∷ []) 7)
     (true ∷ false ∷ []) ≡ ((Some 6, None, Some 12) ∷ []) ∷ [] ∷ []
 parentheses = refl
 
-own_parentheses : map (λ (loose : Bool). at loose (step.Tree (kind.Node node.Grouped) true ∷ hole 0 sort.Any false
+own_parentheses : map (λ (loose : Bool). at loose (step.Tree (kind.Node node.Grouped) ∷ told_maker ∷ hole 0 sort.Any
     ∷ step.Done ∷ step.Done ∷ []) 7) (true ∷ false ∷ []) ≡ replicate 2 ((Some 6, None, Some 11) ∷ [])
 own_parentheses = refl
 
 -- which sorts x, 1 and the call are
-sorts_of_some : map (λ (s : Sort). map (λ index. length (at true (hole 0 s false ∷ step.Done ∷ []) index))
+sorts_of_some : map (λ (s : Sort). map (λ index. length (at true (hole 0 s ∷ step.Done ∷ []) index))
     (14 ∷ 15 ∷ 9 ∷ [])) (sort.Any ∷ sort.Name ∷ sort.Number ∷ sort.Character ∷ sort.Constant ∷ sort.Text ∷ [])
     ≡ (1 ∷ 1 ∷ 1 ∷ []) ∷ (1 ∷ 0 ∷ 0 ∷ []) ∷ (0 ∷ 1 ∷ 0 ∷ []) ∷ (0 ∷ 0 ∷ 0 ∷ []) ∷ (0 ∷ 1 ∷ 0 ∷ []) ∷ (0 ∷ 0 ∷ 0 ∷ []) ∷ []
 sorts_of_some = refl
@@ -258,18 +271,18 @@ unfolding ends_of
 ends = refl
 
 -- one of two, the first way first; and what comes after a jump
-either_fits : at true (step.Either 2 ∷ hole 0 sort.Name true ∷ step.Jump 3 ∷ step.Either 1 ∷ hole 1 sort.Text false
-    ∷ hole 1 sort.Any false ∷ step.Done ∷ []) 14
+either_fits : at true (step.Either 3 ∷ told_first ∷ hole 0 sort.Name ∷ step.Jump 3 ∷ step.Either 1 ∷ hole 1 sort.Text
+    ∷ hole 1 sort.Any ∷ step.Done ∷ []) 14
     ≡ (Some 14, None, Some 20) ∷ (None, Some 14, None) ∷ []
 either_fits = refl
 
 -- passing over no step, one, all and more
-jumps : map (λ n. length (at true (step.Jump n ∷ hole 0 sort.Text false ∷ hole 0 sort.Any false ∷ step.Done ∷ []) 14))
+jumps : map (λ n. length (at true (step.Jump n ∷ hole 0 sort.Text ∷ hole 0 sort.Any ∷ step.Done ∷ []) 14))
     (0 ∷ 1 ∷ 2 ∷ 3 ∷ 4 ∷ 65535 ∷ []) ≡ 0 ∷ 1 ∷ 0 ∷ 0 ∷ 0 ∷ 0 ∷ []
 jumps = refl
 
 -- f, then any arguments but the last
-dots_fit : at true (step.Tree (kind.Node node.Called) false ∷ hole 1 sort.Any false ∷ step.Dots ∷ hole 0 sort.Name true
+dots_fit : at true (step.Tree (kind.Node node.Called) ∷ hole 1 sort.Any ∷ step.Dots ∷ told_first ∷ hole 0 sort.Name
     ∷ step.Done ∷ step.Done ∷ []) 9 ≡ (Some 4, Some 8, Some 9) ∷ []
 unfolding ends_of
 dots_fit = refl
@@ -340,7 +353,7 @@ denied loose =
 
 abbrev in_denied : (loose : Bool) → (index : ℕ) → (first last : BinOp) → List (Option ℕ × Option ℕ × Option ℕ)
 in_denied loose index first last = ways (fits_at (denied loose) (step.Sides (kind.Node (node.Binary first))
-    (kind.Node (node.Binary last)) true ∷ hole 1 sort.Any false ∷ step.Done ∷ hole 0 sort.Any false ∷ step.Done
+    (kind.Node (node.Binary last)) true ∷ hole 1 sort.Any ∷ step.Done ∷ hole 0 sort.Any ∷ step.Done
     ∷ step.Done ∷ []) index nothing_bound)
 
 denied_fits : in_denied true 4 op.Ge op.Ge ++ in_denied true 4 op.Le op.Le
@@ -538,7 +551,7 @@ limits = refl
 -- Claims: $0 is x, at the steps from 0 on; some branch of the function is, at those from 3 on a call.
 abbrev steps : List Step
 steps =
-    step.Jump 0 ∷ step.Leaf (leaf.Name (120 ∷ []) 1) false ∷ step.Done ∷ step.Tree (kind.Node node.Called) false ∷ step.Dots
+    step.Jump 0 ∷ step.Leaf (leaf.Name (120 ∷ []) 1) ∷ step.Done ∷ step.Tree (kind.Node node.Called) ∷ step.Dots
     ∷ step.Done ∷ step.Done ∷ []
 
 abbrev site_with : Site

@@ -1,14 +1,14 @@
 //! Tests of holes and of tokens.
 ghost use Rattle.std.specs.List.{find, list_any, range_with_len, take_while};
-ghost use Rattle.std.specs.Prelude.{◌≡◌};
-ghost use Rattle.bmatch.specs.Asking.{after, are_joined, bytes_at, bytes_of, compares, follows, has_backslash};
-ghost use Rattle.bmatch.specs.Asking.{compares_both, has_c_escape, is_c_escape, is_no_close, is_operator};
-ghost use Rattle.bmatch.specs.Asking.{is_own_name, is_parameter, is_quiet, passes_test, place_at, sign_number};
-ghost use Rattle.bmatch.specs.Asking.{begins_with, bytes_in, measure_of, product_of, told_token, value_at, value_in};
-ghost use Rattle.bmatch.specs.Asking.{is_heading, is_next, is_spelled, letters_in, letters_of, line_in, remainder_of, room_of, token_in};
-ghost use Rattle.bmatch.specs.Asking.{begins_definition, branches_up_to, comes_before, definition_end, distance};
-ghost use Rattle.bmatch.specs.Asking.{ends_definition, given_after, has_negative, is_dropped, is_inside, larger, rest_of, size_by};
-ghost use Rattle.bmatch.specs.Asking.{is_negative, is_no_end, size_declared, size_defined, size_in, sum_of};
+ghost use Rattle.std.specs.Prelude.{◌≡◌, Some, false, unwrap_or};
+ghost use Rattle.bmatch.specs.Asking.{after, are_joined, begins_definition, begins_with, branches_up_to, bytes_at};
+ghost use Rattle.bmatch.specs.Asking.{bytes_in, comes_before, compares, definition_end, distance, ends_definition};
+ghost use Rattle.bmatch.specs.Asking.{follows, given_after, has_backslash, has_c_escape, has_negative, is_c_escape};
+ghost use Rattle.bmatch.specs.Asking.{is_dropped, is_heading, is_inside, is_negative, is_next, is_no_close, is_no_end};
+ghost use Rattle.bmatch.specs.Asking.{is_operator, is_own_name, is_parameter, is_spelled, larger, letters_in, letters_of};
+ghost use Rattle.bmatch.specs.Asking.{line_in, measure_of, passes_test, place_at, product_of, remainder_of, rest_of};
+ghost use Rattle.bmatch.specs.Asking.{room_of, sign_number, size_by, size_declared, size_defined, size_in, sum_of};
+ghost use Rattle.bmatch.specs.Asking.{token_in, told_token, value_in};
 ghost use Rattle.bmatch.specs.Same.{is_same_lexeme};
 
 use crate::binds::Binds;
@@ -26,34 +26,41 @@ use btree::{Construct, Node};
 pub(crate) fn passes_test(site: &Site<'_>, test: Test, binds: &Binds) -> bool
     ensures { result ≡ passes_test site.now test binds.now }
 {
+    answer(site, test, binds).unwrap_or(false)
+}
+
+// What a test comes to, if its holes stand for something.
+fn answer(site: &Site<'_>, test: Test, binds: &Binds) -> Option<bool>
+    ensures { unwrap_or result false ≡ passes_test site.now test binds.now }
+{
     let tree = &site.sight.tree;
     let token = told_token(tree, binds);
-    match test {
-        Test::Quiet(hole) => is_quiet(tree, binds.of(hole)),
-        Test::Compares(one, relation, other) => compares_both(
-            measure_of(tree, one, binds),
+    Some(match test {
+        Test::Quiet(hole) => !branch_at(tree.rows, binds.of(hole)?).acts,
+        Test::Compares(one, relation, other) => compares(
             relation,
-            measure_of(tree, other, binds),
+            measure_of(tree, one, binds)?,
+            measure_of(tree, other, binds)?,
         ),
-        Test::Backslash(hole) => has_backslash(tree, binds.of(hole)),
-        Test::Begins(hole, word) => begins_with(tree, binds.of(hole), word),
+        Test::Backslash(hole) => has_backslash(tree, binds.of(hole)?),
+        Test::Begins(hole, word) => begins_with(tree, binds.of(hole)?, word),
         Test::Joined => token < tree.lexemes.len()
             && are_joined(place_at(tree, token), place_at(tree, token + 1)),
         Test::Followed(sign) => {
             token < tree.lexemes.len() && follows(sign, &lexeme_at(tree.lexemes, token + 1))
         }
         Test::AfterOperator => is_operator(lexeme_at(tree.lexemes, token.saturating_sub(1))),
-        Test::OwnName(hole) => is_own_name(site, binds.of(hole)),
-        Test::Parameter(hole) => is_parameter(site, binds.of(hole)),
-        Test::Heading(hole) => is_heading(tree, binds.of(hole)),
-        Test::Next(hole, sign) => is_next(tree, binds.of(hole), sign),
-        Test::Spelled(hole, bytes, len) => is_spelled(tree, binds.of(hole), name_in(&bytes, len)),
-        Test::Defines(hole) => begins_definition(tree, binds.of(hole)),
-        Test::Negative(hole) => has_negative(tree, binds.of(hole)),
-        Test::Inside(one, other) => is_inside(tree, binds.of(one), binds.of(other)),
-        Test::Precedes(one, other) => comes_before(tree, binds.of(one), binds.of(other)),
-        Test::Dropped(hole) => is_dropped(tree, binds.of(hole)),
-    }
+        Test::OwnName(hole) => is_own_name(site, binds.of(hole)?),
+        Test::Parameter(hole) => is_parameter(site, binds.of(hole)?),
+        Test::Heading(hole) => is_heading(tree, binds.of(hole)?),
+        Test::Next(hole, sign) => is_next(tree, binds.of(hole)?, sign),
+        Test::Spelled(hole, bytes, len) => is_spelled(tree, binds.of(hole)?, name_in(&bytes, len)),
+        Test::Defines(hole) => begins_definition(tree, binds.of(hole)?),
+        Test::Negative(hole) => has_negative(tree, binds.of(hole)?),
+        Test::Inside(one, other) => is_inside(tree, binds.of(one)?, binds.of(other)?),
+        Test::Precedes(one, other) => comes_before(tree, binds.of(one)?, binds.of(other)?),
+        Test::Dropped(hole) => is_dropped(tree, binds.of(hole)?),
+    })
 }
 
 /// The token that is told, or the first one of what was found.
@@ -63,15 +70,6 @@ pub(crate) fn told_token(tree: &Tree<'_>, binds: &Binds) -> usize
     match binds.told {
         Some(token) => token,
         None => branch_at(tree.rows, binds.of(ROOT).unwrap_or(0)).first,
-    }
-}
-
-fn is_quiet(tree: &Tree<'_>, index: Option<usize>) -> bool
-    ensures { result ≡ is_quiet tree.now index }
-{
-    match index {
-        Some(index) => !branch_at(tree.rows, index).acts,
-        None => false,
     }
 }
 
@@ -115,19 +113,13 @@ fn measure_of(tree: &Tree<'_>, measure: Measure, binds: &Binds) -> Option<u64>
 fn product_of(one: Option<u16>, other: Option<u16>) -> Option<u64>
     ensures { result ≡ product_of one other }
 {
-    match (one, other) {
-        (Some(one), Some(other)) => Some(u64::from(one) * u64::from(other)),
-        _ => None,
-    }
+    Some(u64::from(one?) * u64::from(other?))
 }
 
 fn wide(value: Option<u16>) -> Option<u64>
     ensures { result ≡ value }
 {
-    match value {
-        Some(value) => Some(u64::from(value)),
-        None => None,
-    }
+    Some(u64::from(value?))
 }
 
 fn remainder_of(one: Option<u16>, other: Option<u16>) -> Option<u64>
@@ -142,38 +134,25 @@ fn remainder_of(one: Option<u16>, other: Option<u16>) -> Option<u64>
 fn room_of(last: Option<u16>) -> Option<u64>
     ensures { result ≡ room_of last }
 {
-    match last {
-        Some(last) => Some(2 * u64::from(last) + 1),
-        None => None,
-    }
+    Some(2 * u64::from(last?) + 1)
 }
 
+// The value of a branch that is a constant.
 fn value_in(tree: &Tree<'_>, index: Option<usize>) -> Option<u16>
     ensures { result ≡ value_in tree.now index }
 {
-    match index {
-        Some(index) => value_at(tree, index),
-        None => None,
-    }
-}
-
-fn bytes_in(tree: &Tree<'_>, index: Option<usize>) -> Option<u64>
-    ensures { result ≡ bytes_in tree.now index }
-{
-    match index {
-        Some(index) => Some(bytes_of(tree, index) as u64),
-        None => None,
+    let branch = branch_at(tree.rows, index?);
+    match branch.kind {
+        Kind::Node(Node::Constant) => constant_in(&lexeme_at(tree.lexemes, branch.token)),
+        _ => None,
     }
 }
 
 // Whether a branch is the name with which a definition begins.
-fn begins_definition(tree: &Tree<'_>, index: Option<usize>) -> bool
-    ensures { result ≡ begins_definition tree.now index }
+fn begins_definition(tree: &Tree<'_>, index: usize) -> bool
+    ensures { result ≡ begins_definition tree.now (Some index) }
 {
-    match index {
-        Some(index) => index == 0 || ends_definition(tree, index - 1),
-        None => false,
-    }
+    index == 0 || ends_definition(tree, index - 1)
 }
 
 fn ends_definition(tree: &Tree<'_>, index: usize) -> bool
@@ -189,13 +168,12 @@ fn ends_definition(tree: &Tree<'_>, index: usize) -> bool
 fn size_in(tree: &Tree<'_>, index: Option<usize>) -> Option<u64>
     ensures { result ≡ size_in tree.now index }
 {
-    match index {
-        Some(index) if begins_definition(tree, Some(index)) => size_defined(
-            after(tree.lexemes, branch_at(tree.rows, index).token),
-            values_after(tree, index) as u64,
-        ),
-        Some(index) => size_declared(after(tree.lexemes, branch_at(tree.rows, index).token)),
-        None => None,
+    let index = index?;
+    let rest = after(tree.lexemes, branch_at(tree.rows, index).token);
+    if begins_definition(tree, index) {
+        size_defined(rest, values_after(tree, index) as u64)
+    } else {
+        size_declared(rest)
     }
 }
 
@@ -256,10 +234,7 @@ fn larger(one: u64, other: u64) -> u64
 fn sum_of(one: Option<u16>, other: Option<u16>) -> Option<u64>
     ensures { result ≡ sum_of one other }
 {
-    match (one, other) {
-        (Some(one), Some(other)) => Some(u64::from(one) + u64::from(other)),
-        _ => None,
-    }
+    Some(u64::from(one?) + u64::from(other?))
 }
 
 // What is left of the difference of two values, divided by a third.
@@ -285,13 +260,10 @@ fn distance(one: u16, other: u16) -> u16
 }
 
 // Whether a number below 0, or a minus, stands after a branch, before the next `;`.
-fn has_negative(tree: &Tree<'_>, index: Option<usize>) -> bool
-    ensures { result ≡ has_negative tree.now index }
+fn has_negative(tree: &Tree<'_>, index: usize) -> bool
+    ensures { result ≡ has_negative tree.now (Some index) }
 {
-    match index {
-        Some(index) => some_negative(after(tree.lexemes, branch_at(tree.rows, index).token)),
-        None => false,
-    }
+    some_negative(after(tree.lexemes, branch_at(tree.rows, index).token))
 }
 
 fn some_negative(lexemes: &[Lexeme]) -> bool
@@ -320,68 +292,37 @@ fn is_negative(lexeme: &Lexeme) -> bool
 }
 
 // Whether a branch is in another one, or is it.
-fn is_inside(tree: &Tree<'_>, one: Option<usize>, other: Option<usize>) -> bool
-    ensures { result ≡ is_inside tree.now one other }
+fn is_inside(tree: &Tree<'_>, one: usize, other: usize) -> bool
+    ensures { result ≡ is_inside tree.now (Some one) (Some other) }
 {
-    match (one, other) {
-        (Some(one), Some(other)) => one <= other && branch_at(tree.rows, other).begin <= one,
-        _ => false,
-    }
+    one <= other && branch_at(tree.rows, other).begin <= one
 }
 
 // Whether a branch ends before another one begins.
-fn comes_before(tree: &Tree<'_>, one: Option<usize>, other: Option<usize>) -> bool
-    ensures { result ≡ comes_before tree.now one other }
+fn comes_before(tree: &Tree<'_>, one: usize, other: usize) -> bool
+    ensures { result ≡ comes_before tree.now (Some one) (Some other) }
 {
-    match (one, other) {
-        (Some(one), Some(other)) => one < branch_at(tree.rows, other).begin,
-        _ => false,
-    }
+    one < branch_at(tree.rows, other).begin
 }
 
 // Whether a branch is all that a statement does.
-fn is_dropped(tree: &Tree<'_>, index: Option<usize>) -> bool
-    ensures { result ≡ is_dropped tree.now index }
+fn is_dropped(tree: &Tree<'_>, index: usize) -> bool
+    ensures { result ≡ is_dropped tree.now (Some index) }
 {
-    match index {
-        Some(index) if index < tree.rows.len() => matches!(
+    index < tree.rows.len()
+        && matches!(
             branch_at(tree.rows, index + 1).kind,
             Kind::Node(Node::Evaluated)
-        ),
-        _ => false,
-    }
+        )
 }
 
 // The number that stands after a name.
 fn given_after(tree: &Tree<'_>, index: Option<usize>) -> Option<u16>
     ensures { result ≡ given_after tree.now index }
 {
-    match index {
-        Some(index) => match after(tree.lexemes, branch_at(tree.rows, index).token) {
-            [given, ..] => constant_in(given),
-            [] => None,
-        },
-        None => None,
-    }
-}
-
-// The value of a branch that is a constant.
-fn value_at(tree: &Tree<'_>, index: usize) -> Option<u16>
-    ensures { result ≡ value_at tree.now index }
-{
-    let branch = branch_at(tree.rows, index);
-    match branch.kind {
-        Kind::Node(Node::Constant) => constant_in(&lexeme_at(tree.lexemes, branch.token)),
-        _ => None,
-    }
-}
-
-fn compares_both(one: Option<u64>, relation: Relation, other: Option<u64>) -> bool
-    ensures { result ≡ compares_both one relation other }
-{
-    match (one, other) {
-        (Some(one), Some(other)) => compares(relation, one, other),
-        _ => false,
+    match after(tree.lexemes, branch_at(tree.rows, index?).token) {
+        [given, ..] => constant_in(given),
+        [] => None,
     }
 }
 
@@ -399,25 +340,20 @@ fn compares(relation: Relation, one: u64, other: u64) -> bool
 }
 
 // How many bytes a branch that is one token has.
-fn bytes_of(tree: &Tree<'_>, index: usize) -> usize
-    ensures { result ≡ bytes_of tree.now index }
+fn bytes_in(tree: &Tree<'_>, index: Option<usize>) -> Option<u64>
+    ensures { result ≡ bytes_in tree.now index }
 {
-    match place_at(tree, branch_at(tree.rows, index).first) {
-        Some(place) => place.len,
-        None => 0,
+    match place_at(tree, branch_at(tree.rows, index?).first) {
+        Some(place) => Some(place.len as u64),
+        None => Some(0),
     }
 }
 
 fn letters_in(tree: &Tree<'_>, index: Option<usize>) -> Option<u64>
     ensures { result ≡ letters_in tree.now index }
 {
-    match index {
-        Some(index) => {
-            let place = place_at(tree, branch_at(tree.rows, index).first);
-            Some(letters_of(bytes_at(tree.text, place)) as u64)
-        }
-        None => None,
-    }
+    let place = place_at(tree, branch_at(tree.rows, index?).first);
+    Some(letters_of(bytes_at(tree.text, place)) as u64)
 }
 
 // How many bytes are no stars, without two quotes.
@@ -434,84 +370,52 @@ fn letters_of(bytes: &[u8]) -> usize
 fn token_in(tree: &Tree<'_>, index: Option<usize>) -> Option<u64>
     ensures { result ≡ token_in tree.now index }
 {
-    match index {
-        Some(index) => Some(branch_at(tree.rows, index).first as u64),
-        None => None,
-    }
+    Some(branch_at(tree.rows, index?).first as u64)
 }
 
 fn line_in(tree: &Tree<'_>, index: Option<usize>) -> Option<u64>
     ensures { result ≡ line_in tree.now index }
 {
-    match place_at(tree, branch_at(tree.rows, index?).first) {
-        Some(place) => Some(place.line),
-        None => None,
-    }
+    Some(place_at(tree, branch_at(tree.rows, index?).first)?.line)
 }
 
 // Whether the token of a branch is the name of these letters.
-fn is_spelled(tree: &Tree<'_>, index: Option<usize>, name: &[u8]) -> bool
-    ensures { result ≡ is_spelled tree.now index name.now }
+fn is_spelled(tree: &Tree<'_>, index: usize, name: &[u8]) -> bool
+    ensures { result ≡ is_spelled tree.now (Some index) name.now }
 {
-    match index {
-        Some(index) => is_named(
-            &lexeme_at(tree.lexemes, branch_at(tree.rows, index).token),
-            name,
-        ),
-        None => false,
-    }
+    let token = branch_at(tree.rows, index).token;
+    is_named(&lexeme_at(tree.lexemes, token), name)
 }
 
-fn is_heading(tree: &Tree<'_>, index: Option<usize>) -> bool
-    ensures { result ≡ is_heading tree.now index }
+fn is_heading(tree: &Tree<'_>, index: usize) -> bool
+    ensures { result ≡ is_heading tree.now (Some index) }
 {
-    match index {
-        Some(index) => matches!(
-            branch_at(tree.rows, index).kind,
-            Kind::Construct(Construct::Heading)
-        ),
-        None => false,
-    }
+    matches!(
+        branch_at(tree.rows, index).kind,
+        Kind::Construct(Construct::Heading)
+    )
 }
 
 // Whether a sign comes after the last token of a branch.
-fn is_next(tree: &Tree<'_>, index: Option<usize>, sign: u16) -> bool
-    ensures { result ≡ is_next tree.now index sign }
+fn is_next(tree: &Tree<'_>, index: usize, sign: u16) -> bool
+    ensures { result ≡ is_next tree.now (Some index) sign }
 {
-    match index {
-        Some(index) => follows(
-            sign,
-            &lexeme_at(
-                tree.lexemes,
-                branch_at(tree.rows, index).last.saturating_add(1),
-            ),
-        ),
-        None => false,
-    }
+    let last = branch_at(tree.rows, index).last;
+    follows(sign, &lexeme_at(tree.lexemes, last.saturating_add(1)))
 }
 
-fn has_backslash(tree: &Tree<'_>, index: Option<usize>) -> bool
-    ensures { result ≡ has_backslash tree.now index }
+fn has_backslash(tree: &Tree<'_>, index: usize) -> bool
+    ensures { result ≡ has_backslash tree.now (Some index) }
 {
-    match index {
-        Some(index) => {
-            let place = place_at(tree, branch_at(tree.rows, index).first);
-            has_c_escape(bytes_at(tree.text, place))
-        }
-        None => false,
-    }
+    let place = place_at(tree, branch_at(tree.rows, index).first);
+    has_c_escape(bytes_at(tree.text, place))
 }
 
-fn begins_with(tree: &Tree<'_>, index: Option<usize>, word: Word) -> bool
-    ensures { result ≡ begins_with tree.now index word }
+fn begins_with(tree: &Tree<'_>, index: usize, word: Word) -> bool
+    ensures { result ≡ begins_with tree.now (Some index) word }
 {
-    match index {
-        Some(index) => is_word(
-            word,
-            &lexeme_at(tree.lexemes, branch_at(tree.rows, index).first),
-        ),
-        None => false,
-    }
+    let first = branch_at(tree.rows, index).first;
+    is_word(word, &lexeme_at(tree.lexemes, first))
 }
 
 fn place_at(tree: &Tree<'_>, token: usize) -> Option<TokenPlace>
@@ -593,32 +497,24 @@ fn is_operator(lexeme: Lexeme) -> bool
     matches!(lexeme, Lexeme::Operator(_))
 }
 
-fn is_own_name(site: &Site<'_>, index: Option<usize>) -> bool
-    ensures { result ≡ is_own_name site.now index }
+fn is_own_name(site: &Site<'_>, index: usize) -> bool
+    ensures { result ≡ is_own_name site.now (Some index) }
 {
     let tree = &site.sight.tree;
     let own = branch_at(tree.rows, site.function.begin).token;
-    match index {
-        Some(index) => is_same_lexeme(
-            &lexeme_at(tree.lexemes, branch_at(tree.rows, index).token),
-            &lexeme_at(tree.lexemes, own),
-        ),
-        None => false,
-    }
+    is_same_lexeme(
+        &lexeme_at(tree.lexemes, branch_at(tree.rows, index).token),
+        &lexeme_at(tree.lexemes, own),
+    )
 }
 
-fn is_parameter(site: &Site<'_>, index: Option<usize>) -> bool
-    ensures { result ≡ is_parameter site.now index }
+fn is_parameter(site: &Site<'_>, index: usize) -> bool
+    ensures { result ≡ is_parameter site.now (Some index) }
 {
     let tree = &site.sight.tree;
     let own = branch_at(tree.rows, site.function.begin).token;
-    match index {
-        Some(index) => {
-            let name = lexeme_at(tree.lexemes, branch_at(tree.rows, index).token);
-            is_before_close(after(tree.lexemes, own), &name)
-        }
-        None => false,
-    }
+    let name = lexeme_at(tree.lexemes, branch_at(tree.rows, index).token);
+    is_before_close(after(tree.lexemes, own), &name)
 }
 
 // The tokens after this one.

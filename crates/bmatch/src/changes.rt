@@ -1,7 +1,7 @@
 //! Changes of names.
 ghost use Rattle.std.specs.List.{find, range_with_len};
 ghost use Rattle.std.specs.Prelude.{◌≡◌};
-ghost use Rattle.bmatch.specs.Changes.{back_from, change_before, changed_by, is_change, place_back, steps_back};
+ghost use Rattle.bmatch.specs.Changes.{change_before, changed_by, is_change, place_back, steps_back};
 
 use crate::holds::Site;
 use crate::same::is_same;
@@ -39,7 +39,7 @@ fn changed_by(rows: &[Branch], index: usize) -> Option<usize>
 pub(crate) fn change_before(site: &Site<'_>, name: usize, end: usize) -> Option<usize>
     ensures { result ≡ change_before site.now name end }
 {
-    back_from(end, steps_back(site, name, end))
+    Some(place_back(end, steps_back(site, name, end)?))
 }
 
 // How many branches before another one it is.
@@ -52,15 +52,6 @@ fn steps_back(site: &Site<'_>, name: usize, end: usize) -> Option<usize>
         name,
         place_back(end, *back),
     ))
-}
-
-fn back_from(end: usize, back: Option<usize>) -> Option<usize>
-    ensures { result ≡ back_from end back }
-{
-    match back {
-        Some(back) => Some(place_back(end, back)),
-        None => None,
-    }
 }
 
 fn place_back(end: usize, back: usize) -> usize

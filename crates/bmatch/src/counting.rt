@@ -13,29 +13,19 @@ pub(crate) const MOST_COUNTED: usize = 128;
 pub(crate) fn arguments_in(tree: &Tree<'_>, index: Option<usize>) -> Option<u64>
     ensures { result ≡ arguments_in tree.now index }
 {
-    match index {
-        Some(index) => {
-            let call = core_at(tree.rows, index);
-            let begin = branch_at(tree.rows, call).begin;
-            let count = arguments_between(tree.rows, begin, call, MOST_COUNTED);
-            Some(count.saturating_sub(1) as u64)
-        }
-        None => None,
-    }
+    let call = core_at(tree.rows, index?);
+    let begin = branch_at(tree.rows, call).begin;
+    let count = arguments_between(tree.rows, begin, call, MOST_COUNTED);
+    Some(count.saturating_sub(1) as u64)
 }
 
 /// Which argument of a call, or which parameter of a definition, a branch is, from 1.
 pub(crate) fn place_in(tree: &Tree<'_>, one: Option<usize>, around: Option<usize>) -> Option<u64>
     ensures { result ≡ place_in tree.now one around }
 {
-    match (one, around) {
-        (Some(one), Some(around)) => {
-            let begin = branch_at(tree.rows, around).begin;
-            let end = branch_at(tree.rows, one).begin;
-            Some(arguments_between(tree.rows, begin, end, MOST_COUNTED) as u64)
-        }
-        _ => None,
-    }
+    let end = branch_at(tree.rows, one?).begin;
+    let begin = branch_at(tree.rows, around?).begin;
+    Some(arguments_between(tree.rows, begin, end, MOST_COUNTED) as u64)
 }
 
 // How many branches of a row are expressions, what is called among them. Of many the last ones count.
@@ -68,13 +58,8 @@ fn is_argument(kind: Kind) -> bool
 pub(crate) fn indent_in(tree: &Tree<'_>, index: Option<usize>) -> Option<u64>
     ensures { result ≡ indent_in tree.now index }
 {
-    match index {
-        Some(index) => match tree.places.get(branch_at(tree.rows, index).first) {
-            Some(place) => blanks_at(tree.text, place.start, 0, MOST_COUNTED),
-            None => None,
-        },
-        None => None,
-    }
+    let place = tree.places.get(branch_at(tree.rows, index?).first)?;
+    blanks_at(tree.text, place.start, 0, MOST_COUNTED)
 }
 
 // How many blanks stand before a place of a line, and so many more, if nothing else does.

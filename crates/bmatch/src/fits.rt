@@ -1,17 +1,17 @@
 //! Whether steps of a pattern fit a row of branches.
 ghost use Rattle.std.specs.List.{flat_map};
-ghost use Rattle.std.specs.Prelude.{◌≡◌, ◌∷◌, ◌++◌, IfOk, take};
-ghost use Rattle.bmatch.specs.Fits.{either_way, go_in, has_sides, index_for, kind_for, kind_within, negated, other_kind};
+ghost use Rattle.std.specs.Prelude.{◌≡◌, ◌∷◌, ◌++◌, IfOk, is_some, take};
+ghost use Rattle.bmatch.specs.Fits.{either_way, go_in, has_sides, index_for, inner_of, kind_for, kind_within, negated, other_kind};
 ghost use Rattle.bmatch.specs.Fits.{mirrored, sees_sides, sides_of};
-ghost use Rattle.bmatch.specs.Fits.{changes_hole, ends_of, fits_in, inner_of, is_grouped, is_name_of, is_named, is_number, is_sort, is_word};
+ghost use Rattle.bmatch.specs.Fits.{changes_hole, ends_of, fits_in, is_grouped, is_name_of, is_named, is_number, is_sort, is_word};
 ghost use Rattle.bmatch.specs.Fits.{is_word_alone};
-ghost use Rattle.bmatch.specs.Fits.{is_between, is_seen, is_value_of, leaf_binds, may_begin, rows_left, seen_at, start_of, with_leaf, with_same};
+ghost use Rattle.bmatch.specs.Fits.{is_between, is_seen, is_value_of, leaf_binds, may_begin, rows_left, seen_at, start_of, token_told, with_leaf, with_same};
 ghost use Rattle.bmatch.specs.Trees.{branch_at};
 ghost use Rattle.bmatch.specs.declared.pattern.Step.TheVariants as step;
 
 use crate::binds::Binds;
 use crate::changes::is_change;
-use crate::pattern::{Leaf, Sort, Step, Word, steps_from};
+use crate::pattern::{Leaf, Sort, Spot, Step, Word, steps_from};
 use crate::same::{is_same, is_same_lexeme};
 use crate::tree::{Branch, Kind, Tree, branch_at, core_at, kind_at, kind_number, lexeme_at};
 use blang::Keyword;
@@ -27,9 +27,9 @@ pub struct Span {
     pub end: usize,
 }
 
-/// The two sides of a branch, in the order in which they have to fit.
+/// Two rows, in the order in which they have to fit.
 #[derive(Clone, Copy)]
-pub struct Sides {
+pub struct Rows {
     pub one: Span,
     pub other: Span,
 }
@@ -37,8 +37,8 @@ pub struct Sides {
 /// In which ways the last branch of a row has two sides, what is before it, and its token.
 #[derive(Clone, Copy)]
 pub(crate) struct EitherWay {
-    pub plain: Option<Sides>,
-    pub exchanged: Option<Sides>,
+    pub plain: Option<Rows>,
+    pub exchanged: Option<Rows>,
     pub before: Span,
     pub token: usize,
 }
@@ -80,41 +80,26 @@ pub(crate) fn fits(
     };
     match *step {
         Step::Done => fits_left(sight, more, span, left, binds, found),
-        Step::Tree(kind, is_told) => match inner(sight, kind, kind, span) {
-            Some(inner) => {
-                let row = Left::Row(before(sight, span), &*left);
-                let binds = binds.telling(is_told, token_at(sight, inner.end));
-                fits(sight, more, inner, &row, binds, found)
-            }
-            None => Ok(()),
-        },
-        Step::Range(first, last, is_told) => match inner(sight, first, last, span) {
-            Some(inner) => {
-                let row = Left::Row(before(sight, span), &*left);
-                let binds = binds.telling(is_told, token_at(sight, inner.end));
-                fits(sight, more, inner, &row, binds, found)
-            }
-            None => Ok(()),
-        },
+        Step::Tree(kind) => {
+            let inner = inner_of(sight, kind, kind, span);
+            fits_rows(sight, more, inner, left, binds, found)
+        }
+        Step::Range(first, last) => {
+            let inner = inner_of(sight, first, last, span);
+            fits_rows(sight, more, inner, left, binds, found)
+        }
         Step::Sides(first, last, is_told) => {
             let ways = either_way(sight, first, last, span);
             let row = Left::Row(ways.before, &*left);
-            fits_both(
-                sight,
-                more,
-                &ways,
-                &row,
-                binds.telling(is_told, ways.token),
-                found,
-            )
+            let binds = binds.telling(is_told, ways.token);
+            fits_both(sight, more, &ways, &row, binds, found)
         }
-        Step::Leaf(leaf, is_told) => match with_leaf(sight, leaf, is_told, span, binds) {
+        Step::Leaf(leaf) => match with_leaf(sight, leaf, span, binds) {
             Some(binds) => fits(sight, more, before(sight, span), &*left, binds, found),
             None => Ok(()),
         },
-        Step::Else => {
-            let after = branch_at(sight.tree.rows, span.end.saturating_sub(1)).first;
-            let binds = binds.telling(true, after.saturating_sub(1));
+        Step::Told(spot) => {
+            let binds = binds.telling(true, token_told(sight, spot, span.end));
             fits(sight, more, span, &*left, binds, found)
         }
         Step::Dots => passes(sight, more, span, &*left, binds, found),
@@ -167,48 +152,68 @@ fn fits_both(
         ++ go_in ways.now.exchanged
         (λ x. fits_in sight.now 0 more.now x.one.begin x.one.end (x.other ∷ rows_left left.now) binds))) }
 {
-    fits_sides(sight, more, ways.plain, &*left, binds, found)?;
-    fits_sides(sight, more, ways.exchanged, &*left, binds, found)
+    fits_rows(sight, more, ways.plain, &*left, binds, found)?;
+    fits_rows(sight, more, ways.exchanged, &*left, binds, found)
 }
 
-// The same for one order of them, if there are two.
+// The same for two rows, if they are there.
 #[cycle(fits)]
-fn fits_sides(
+fn fits_rows(
     sight: &Sight<'_>,
     more: &[Step],
-    sides: Option<Sides>,
+    rows: Option<Rows>,
     left: &Left<'_>,
     binds: Binds,
     found: &mut Vec<Binds>,
 ) -> Result<(), AllocError>
-    ensures { IfOk result (λ done. found.new.items ≡ found.old.items ++ go_in sides
+    ensures { IfOk result (λ done. found.new.items ≡ found.old.items ++ go_in rows
         (λ x. fits_in sight.now 0 more.now x.one.begin x.one.end (x.other ∷ rows_left left.now) binds)) }
 {
-    match sides {
-        Some(sides) => {
-            let row = Left::Row(sides.other, &*left);
-            fits(sight, more, sides.one, &row, binds, found)
+    match rows {
+        Some(rows) => {
+            let row = Left::Row(rows.other, &*left);
+            fits(sight, more, rows.one, &row, binds, found)
         }
         None => Ok(()),
     }
 }
 
 /// Whether steps may fit the last branch that ends here, by the first of them.
-pub(crate) fn may_begin(sight: &Sight<'_>, steps: &[Step], end: usize) -> bool
-    ensures { result ≡ may_begin sight.now 0 steps.now end }
+pub(crate) fn may_begin(sight: &Sight<'_>, steps: &[Step], end: usize, binds: &Binds) -> bool
+    ensures { result ≡ may_begin sight.now 0 steps.now end binds.now }
 {
     let [step, more @ ..] = steps else {
         return false;
     };
     match *step {
-        Step::Tree(kind, _) => is_seen(sight, kind, kind, end),
-        Step::Range(first, last, _) => is_seen(sight, first, last, end),
+        Step::Tree(kind) => is_seen(sight, kind, kind, end),
+        Step::Range(first, last) => is_seen(sight, first, last, end),
         Step::Sides(first, last, _) => sees_sides(sight, first, last, end),
+        Step::Leaf(leaf) => is_leaf(&sight.tree, leaf, seen_at(sight, false, end), binds),
         Step::Either(count) => {
-            may_begin(sight, more, end) || may_begin(sight, steps_from(more, count), end)
+            may_begin(sight, more, end, binds)
+                || may_begin(sight, steps_from(more, count), end, binds)
         }
-        Step::Jump(count) => may_begin(sight, steps_from(more, count), end),
-        Step::Done | Step::Leaf(_, _) | Step::Else | Step::Dots => true,
+        Step::Jump(count) => may_begin(sight, steps_from(more, count), end, binds),
+        Step::Done | Step::Told(_) | Step::Dots => true,
+    }
+}
+
+// Whether a branch is this, with what holes stand for.
+fn is_leaf(tree: &Tree<'_>, leaf: Leaf, index: usize, binds: &Binds) -> bool
+    ensures { result ≡ is_some (leaf_binds tree.now leaf index binds.now) }
+{
+    let branch = branch_at(tree.rows, index);
+    match leaf {
+        Leaf::Name(bytes, len) if is_name_of(tree, branch, name_in(&bytes, len)) => true,
+        Leaf::Value(value) if is_value_of(tree, branch, value) => true,
+        Leaf::Word(word) if is_word_alone(tree, index, word) => true,
+        Leaf::Change(hole) if changes_hole(tree, binds.of(hole), index) => true,
+        Leaf::Hole(hole, sort) if is_sort(tree, branch, sort) => match binds.of(hole) {
+            Some(other) if !is_same(tree, other, index) => false,
+            _ => true,
+        },
+        _ => false,
     }
 }
 
@@ -321,7 +326,7 @@ fn sides_of(
     first: Kind,
     last: Kind,
     span: Span,
-) -> Option<Sides>
+) -> Option<Rows>
     ensures { result ≡ sides_of sight.now is_exchanged first last span.begin span.end }
 {
     let seen = seen_at(sight, false, span.end);
@@ -338,12 +343,12 @@ fn sides_of(
         end: index,
     };
     if is_exchanged {
-        Some(Sides {
+        Some(Rows {
             one: left,
             other: right,
         })
     } else {
-        Some(Sides {
+        Some(Rows {
             one: right,
             other: left,
         })
@@ -353,14 +358,12 @@ fn sides_of(
 fn either_way(sight: &Sight<'_>, first: Kind, last: Kind, span: Span) -> EitherWay
     ensures { result ≡ either_way sight.now first last span.begin span.end }
 {
+    let index = index_for(sight, first, seen_at(sight, false, span.end));
     EitherWay {
         plain: sides_of(sight, false, first, last, span),
         exchanged: sides_of(sight, true, first, last, span),
         before: before(sight, span),
-        token: token_at(
-            sight,
-            index_for(sight, first, seen_at(sight, false, span.end)),
-        ),
+        token: branch_at(sight.tree.rows, index).token,
     }
 }
 
@@ -371,46 +374,44 @@ fn is_between(first: Kind, last: Kind, kind: Kind) -> bool
     kind_number(first) <= number && number <= kind_number(last)
 }
 
-// The branches in the last one of a row, if it is of a kind from the first one to the last.
-fn inner(sight: &Sight<'_>, first: Kind, last: Kind, span: Span) -> Option<Span>
+// The branches in the last one of a row, if it is of a kind from the first one to the last, and those before it.
+fn inner_of(sight: &Sight<'_>, first: Kind, last: Kind, span: Span) -> Option<Rows>
     ensures { result ≡ inner_of sight.now first last span.begin span.end }
 {
     let seen = seen_at(sight, is_grouped(first), span.end);
     let index = index_for(sight, first, seen);
     if span.begin < span.end && is_between(first, last, kind_for(sight, first, seen)) {
-        Some(Span {
-            begin: branch_at(sight.tree.rows, index).begin,
-            end: index,
+        let begin = branch_at(sight.tree.rows, index).begin;
+        Some(Rows {
+            one: Span { begin, end: index },
+            other: before(sight, span),
         })
     } else {
         None
     }
 }
 
-fn token_at(sight: &Sight<'_>, index: usize) -> usize
-    ensures { result ≡ (branch_at sight.now.tree.rows.now index).token }
+// The token that is told at the end of a row.
+fn token_told(sight: &Sight<'_>, spot: Spot, end: usize) -> usize
+    ensures { result ≡ token_told sight.now spot end }
 {
-    branch_at(sight.tree.rows, index).token
+    let rows = sight.tree.rows;
+    match spot {
+        Spot::First => branch_at(rows, seen_at(sight, false, end)).first,
+        Spot::Maker => branch_at(rows, end).token,
+        Spot::Else => {
+            let after = branch_at(rows, end.saturating_sub(1));
+            after.first.saturating_sub(1)
+        }
+    }
 }
 
 // What holes stand for where the last branch of a row is this.
-fn with_leaf(
-    sight: &Sight<'_>,
-    leaf: Leaf,
-    is_told: bool,
-    span: Span,
-    binds: Binds,
-) -> Option<Binds>
-    ensures { result ≡ with_leaf sight.now leaf is_told span.begin span.end binds }
+fn with_leaf(sight: &Sight<'_>, leaf: Leaf, span: Span, binds: Binds) -> Option<Binds>
+    ensures { result ≡ with_leaf sight.now leaf span.begin span.end binds }
 {
-    let index = seen_at(sight, false, span.end);
     if span.begin < span.end {
-        leaf_binds(
-            &sight.tree,
-            leaf,
-            index,
-            binds.telling(is_told, branch_at(sight.tree.rows, index).first),
-        )
+        leaf_binds(&sight.tree, leaf, seen_at(sight, false, span.end), binds)
     } else {
         None
     }

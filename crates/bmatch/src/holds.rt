@@ -242,10 +242,7 @@ fn begun_by(site: &Site<'_>, hole: u8, binds: &Binds) -> Option<usize>
     ensures { result ≡ begun_by site.now hole binds.now }
 {
     let end = branch_at(site.sight.tree.rows, root_of(binds)).begin;
-    match binds.of(hole) {
-        Some(name) => change_before(site, name, end),
-        None => None,
-    }
+    change_before(site, binds.of(hole)?, end)
 }
 
 fn root_of(binds: &Binds) -> usize
@@ -268,7 +265,7 @@ fn fits_some(
 {
     let span = scope_span(site, sought.scope, &binds);
     for index in span.begin..span.end {
-        some_at(site, sought, binds, index, found)?;
+        some_at(site, sought, &binds, index, found)?;
     }
     Ok(())
 }
@@ -276,22 +273,22 @@ fn fits_some(
 fn some_at(
     site: &Site<'_>,
     sought: &Sought,
-    binds: Binds,
+    binds: &Binds,
     index: usize,
     found: &mut Vec<Binds>,
 ) -> Result<(), AllocError>
     requires { index + 1 < 2 ^ 64 }
     ensures { IfOk result (λ done.
-        found.new.items ≡ found.old.items ++ some_at site.now sought.now binds index) }
+        found.new.items ≡ found.old.items ++ some_at site.now sought.now binds.now index) }
 {
-    if !is_within(site, sought.scope, &binds, index) {
+    if !is_within(site, sought.scope, binds, index) {
         return Ok(());
     }
     let steps = steps_from(site.sight.steps, sought.pattern);
-    if !may_begin(&site.sight, steps, index + 1) {
+    let binds = binds.with(sought.hole, index);
+    if !may_begin(&site.sight, steps, index + 1, &binds) {
         return Ok(());
     }
-    let binds = binds.with(sought.hole, index);
     fits_at(&site.sight, steps, index, binds, found)
 }
 

@@ -21,5 +21,5 @@ pub use fits::{Sight, Span};
 pub use growing::grown;
 pub use holds::Site;
 pub use noticing::{MOST_BRANCHES, MOST_IN_ALL, Notice, notices_of};
-pub use pattern::{Leaf, MOST_HOLES, NO_HOLE, ROOT, Rule, RuleTable, Sort, Step, Word};
+pub use pattern::{Leaf, MOST_HOLES, NO_HOLE, ROOT, Rule, RuleTable, Sort, Spot, Step, Word};
 pub use tree::{Branch, Kind, TokenPlace, Tree, branch_at, lexeme_at};

@@ -137,17 +137,12 @@ fn root_notices(
         is_loose: rule.is_loose,
     };
     let steps = steps_from(table.steps, rule.pattern);
-    if !may_begin(&sight, steps, root + 1) {
+    let binds = Binds::nothing().with(ROOT, root);
+    if !may_begin(&sight, steps, root + 1, &binds) {
         return Ok(());
     }
     let mut ways = Vec::new(alloc);
-    fits_at(
-        &sight,
-        steps,
-        root,
-        Binds::nothing().with(ROOT, root),
-        &mut ways,
-    )?;
+    fits_at(&sight, steps, root, binds, &mut ways)?;
     if ways.is_empty() {
         return Ok(());
     }
@@ -180,8 +175,5 @@ fn tell(
 fn first_token(tree: &Tree<'_>, index: Option<usize>) -> Option<usize>
     ensures { result ≡ first_token tree.now index }
 {
-    match index {
-        Some(index) => Some(branch_at(tree.rows, index).first),
-        None => None,
-    }
+    Some(branch_at(tree.rows, index?).first)
 }

@@ -20,25 +20,36 @@ pub enum Step {
     /// The row has no more branches.
     Done,
     /// A branch of this kind. The steps for what is in it come next, up to their `Done`, and then those for what is
-    /// before it. Where this is `true`, its token is told.
-    Tree(Kind, bool),
+    /// before it.
+    Tree(Kind),
     /// The same for each kind from the first one to the last, in the order of their numbers.
-    Range(Kind, Kind, bool),
+    Range(Kind, Kind),
     /// A branch of these kinds with two sides. The steps for its right side come next, up to their `Done`, those for
     /// its left side, up to theirs, and then those for what is before it. Where a part in parentheses is no other than
     /// one without, its sides may be exchanged, too, as in `b > a` for `a < b`. Where this is `true`, its operator is
     /// told.
     Sides(Kind, Kind, bool),
-    /// A branch that is this. Where this is `true`, its first token is told.
-    Leaf(Leaf, bool),
-    /// The `else` before the next branch is told.
-    Else,
+    /// A branch that is this.
+    Leaf(Leaf),
+    /// A token is told.
+    Told(Spot),
     /// Any branches.
     Dots,
     /// The next steps fit, or those that come after so many.
     Either(u16),
     /// So many steps are passed over.
     Jump(u16),
+}
+
+/// Which token is told.
+#[derive(Clone, Copy)]
+pub enum Spot {
+    /// The first one of the next branch.
+    First,
+    /// The one that makes the branch whose parts the row is. This is the first step of the row.
+    Maker,
+    /// The `else` before the next branch.
+    Else,
 }
 
 /// A pattern without parts.

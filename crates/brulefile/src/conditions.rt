@@ -296,7 +296,7 @@ impl<'t> Conditions<'t> {
             Some(name) => {
                 let hole = self.only_hole(name)?;
                 let at = number_of(self.steps.len(), text.len())?;
-                self.steps.push(Step::Leaf(Leaf::Change(hole), false))?;
+                self.steps.push(Step::Leaf(Leaf::Change(hole)))?;
                 self.steps.push(Step::Done)?;
                 Ok(at)
             }

@@ -3,7 +3,7 @@
 use crate::cleaning::{Mark, Sign};
 use blang::Keyword;
 use blex::Lexeme;
-use bmatch::{Branch, Kind, Leaf, Sort, Step, Word, branch_at, lexeme_at};
+use bmatch::{Branch, Kind, Leaf, Sort, Spot, Step, Word, branch_at, lexeme_at};
 use btree::{Construct, Node};
 use bword::{BinOp, NAME_LEN, Name};
 use std::alloc::AllocError;
@@ -63,12 +63,14 @@ impl<'a> Sheet<'a> {
         fuel: usize,
     ) -> Result<(), AllocError> {
         if self.is_after_told_else(index) {
-            steps.push(Step::Else)?;
+            steps.push(Step::Told(Spot::Else))?;
         }
-        let is_told = self.is_told(index);
         match self.step_at(index, first) {
             Some(leaf) => {
-                steps.push(Step::Leaf(leaf, is_told))?;
+                if self.is_told(index) {
+                    steps.push(Step::Told(Spot::First))?;
+                }
+                steps.push(Step::Leaf(leaf))?;
                 Ok(())
             }
             None if self.is_dots(index, first) => {
@@ -167,28 +169,39 @@ impl<'a> Sheet<'a> {
         if may_exchange(kind) {
             return self.in_sides(index, first, steps, fuel);
         }
-        let is_told = self.is_told(index);
         let is_nonzero = matches!(kind, Kind::Node(Node::Tested))
             && self.is_nonzero(index.saturating_sub(1));
         if !self.is_loose || !is_nonzero {
-            steps.push(Step::Tree(kind, is_told))?;
-            self.row(first, index, steps, fuel)?;
-            steps.push(Step::Done)?;
-            return Ok(());
+            return self.tree(index, first, index, steps, fuel);
         }
         let either = steps.len();
         steps.push(Step::Either(0))?;
-        steps.push(Step::Tree(kind, is_told))?;
-        self.row(first, index, steps, fuel)?;
-        steps.push(Step::Done)?;
+        self.tree(index, first, index, steps, fuel)?;
         let jump = steps.len();
         steps.push(Step::Jump(0))?;
         set(steps, either, Step::Either(steps_after(steps, either)));
-        steps.push(Step::Tree(kind, is_told))?;
         let end = self.begin_in(index.saturating_sub(2), first);
+        self.tree(index, first, end, steps, fuel)?;
+        set(steps, jump, Step::Jump(steps_after(steps, jump)));
+        Ok(())
+    }
+
+    // A branch of its kind with these parts.
+    #[cycle(drawing)]
+    fn tree(
+        &self,
+        index: usize,
+        first: usize,
+        end: usize,
+        steps: &mut Vec<Step>,
+        fuel: usize,
+    ) -> Result<(), AllocError> {
+        steps.push(Step::Tree(branch_at(self.rows, index).kind))?;
+        if self.is_told(index) {
+            steps.push(Step::Told(Spot::Maker))?;
+        }
         self.row(first, end, steps, fuel)?;
         steps.push(Step::Done)?;
-        set(steps, jump, Step::Jump(steps_after(steps, jump)));
         Ok(())
     }
 

@@ -1,5 +1,5 @@
 use Rattle.bfind.specs.Finds.{notice_text, telling_of}
-use Rattle.bmatch.proofs.Ranges.{range_turn}
+use Rattle.bmatch.proofs.Passing.{range_turn}
 use Rattle.bfind.proofs.telling.places_text.Goals as goal
 
 pub loop-index-preserved : goal.loop-index-preserved

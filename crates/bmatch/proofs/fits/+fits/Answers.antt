@@ -2,7 +2,7 @@ use Rattle.std.proofs.Common.{◌≡◌, ◌∙◌, ◌++◌, ◌∷◌, IfOk, L
 use Rattle.bmatch.specs.Binds.{with_told}
 use Rattle.bmatch.specs.Fits.{fits_in, go_in, rows_left}
 use Rattle.bmatch.specs.declared.fits.EitherWay.{EitherWay}
-use Rattle.bmatch.specs.declared.fits.Sides.{Sides}
+use Rattle.bmatch.specs.declared.fits.Rows.{Rows}
 use Rattle.bmatch.specs.declared.binds.Binds.{Binds}
 use Rattle.bmatch.specs.declared.pattern.Step.{Step}
 use Rattle.bmatch.proofs.Steps.{fits_after_jump, fits_both, fits_by_either, fits_by_sides, others}
@@ -51,15 +51,15 @@ fits-returns-in-Sides t c =
     let rows = rows_left c.args.left.now in
     let told = c.in-Sides.is_told in
     subst (λ (bs : List Binds). IfOk c.fits_both.result (λ done. c.fits_both.new.found.items ≡ c.args.found.now.items ++ bs))
-    (ap (λ (b : Binds). fits_both s more c.either_way-ways.result (c.either_way-ways.result.before ∷ rows) b) c.telling.ensures
+    (ap (λ (b : Binds). fits_both s more c.either_way-ways.result (c.either_way-ways.result.before ∷ rows) b) c.telling-binds.ensures
     ∙ (ap (λ (way : EitherWay). fits_both s more way (way.before ∷ rows) (with_told c.args.binds told way.token)) c.either_way-ways.ensures
     ∙ fits_by_sides s c.args.steps.now _ c.in-Sides.first c.in-Sides.last told c.args.span.begin c.args.span.end rows c.args.binds c.in-len1-up.len_at_least c.in-Sides.is)) c.fits_both.ensures
 
 pub fits_both-returns : goal.fits_both-returns
 fits_both-returns t c =
     let found = c.args.found.now.items in
-    let go = λ (x : Sides). fits_in c.args.sight.now 0 c.args.more.now x.one.begin x.one.end (x.other ∷ rows_left c.args.left.now) c.args.binds in
+    let go = λ (x : Rows). fits_in c.args.sight.now 0 c.args.more.now x.one.begin x.one.end (x.other ∷ rows_left c.args.left.now) c.args.binds in
     let plain = go_in c.args.ways.now.plain go in
     let exchanged = go_in c.args.ways.now.exchanged go in
-    subst (λ (bs : List Binds). IfOk c.fits_sides-2.result (λ done. c.fits_sides-2.new.found.items ≡ bs))
-    (ap (λ bs. bs ++ exchanged) c.in_ok-fits_sides.ensures ∙ append_assoc found plain exchanged) c.fits_sides-2.ensures
+    subst (λ (bs : List Binds). IfOk c.fits_rows-2.result (λ done. c.fits_rows-2.new.found.items ≡ bs))
+    (ap (λ bs. bs ++ exchanged) c.in_ok-fits_rows.ensures ∙ append_assoc found plain exchanged) c.fits_rows-2.ensures

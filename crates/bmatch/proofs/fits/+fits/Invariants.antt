@@ -13,8 +13,8 @@ decreases-fits_left l = 3 * length l.more.now + 1
 abbrev pub decreases-fits_both : goal.decreases-fits_both
 decreases-fits_both l = 3 * length l.more.now + 2
 
-abbrev pub decreases-fits_sides : goal.decreases-fits_sides
-decreases-fits_sides l = 3 * length l.more.now + 1
+abbrev pub decreases-fits_rows : goal.decreases-fits_rows
+decreases-fits_rows l = 3 * length l.more.now + 1
 
 abbrev pub decreases-passes : goal.decreases-passes
 decreases-passes l = 3 * length l.more.now + 1

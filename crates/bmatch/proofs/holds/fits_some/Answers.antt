@@ -1,5 +1,5 @@
 use Rattle.bmatch.specs.Holds.{some_at}
-use Rattle.bmatch.proofs.Ranges.{range_turn}
+use Rattle.bmatch.proofs.Passing.{range_turn}
 use Rattle.bmatch.proofs.holds.fits_some.Goals as goal
 
 pub loop-index-preserved : goal.loop-index-preserved

@@ -1,5 +1,5 @@
 use Rattle.bmatch.specs.Notices.{root_notices}
-use Rattle.bmatch.proofs.Ranges.{range_turn}
+use Rattle.bmatch.proofs.Passing.{range_turn}
 use Rattle.bmatch.proofs.noticing.function_notices.Goals as goal
 
 pub loop-root-preserved : goal.loop-root-preserved

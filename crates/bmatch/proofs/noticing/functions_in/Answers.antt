@@ -1,5 +1,5 @@
 use Rattle.bmatch.specs.Notices.{functions_at}
-use Rattle.bmatch.proofs.Ranges.{range_turn}
+use Rattle.bmatch.proofs.Passing.{range_turn}
 use Rattle.bmatch.proofs.noticing.functions_in.Goals as goal
 
 pub loop-index-preserved : goal.loop-index-preserved

@@ -12,3 +12,6 @@ decreases-spelled l = 4 * l.fuel + 2
 
 abbrev pub decreases-in_sides : goal.decreases-in_sides
 decreases-in_sides l = 4 * l.fuel + 1
+
+abbrev pub decreases-tree : goal.decreases-tree
+decreases-tree l = 4 * l.fuel + 1
