@@ -14,7 +14,7 @@ use bword::Name;
 const MOST_LEVELS: usize = 32;
 
 /// How far the judgement of a function has come.
-#[derive(Clone, Copy)]
+#[derive(Clone, Copy, Default)]
 struct Flow {
     /// Whether a label or an address has ended it.
     is_over: bool,
@@ -34,13 +34,7 @@ pub(crate) fn unset_in(
     defined: &Defined,
     remarks: &mut Remarks,
 ) {
-    let mut flow = Flow {
-        is_over: false,
-        loop_first: 0,
-        loop_end: 0,
-        branch_first: 0,
-        branch_end: 0,
-    };
+    let mut flow = Flow::default();
     for token in definition.first.saturating_add(1)..=definition.last {
         if flow.is_over {
             return;

@@ -143,9 +143,16 @@ fn going_on(place: TokenPlace) -> Caution {
 
 // Adds what is so, but no more than a person reads.
 fn push(cautions: &mut Vec<Caution>, caution: Option<Caution>) -> Result<(), AllocError> {
-    match caution {
-        Some(caution) if cautions.len() < MOST_CAUTIONS => cautions.push(caution)?,
-        _ => {}
+    let Some(caution) = caution else {
+        return Ok(());
+    };
+    if cautions.len() < MOST_CAUTIONS {
+        cautions.push(Caution {
+            warning: caution.warning,
+            name: caution.name,
+            place: caution.place,
+            related: caution.related,
+        })?;
     }
     Ok(())
 }

@@ -187,11 +187,6 @@ impl Locals {
         self.all.iter().position(|local| local.name == *name)
     }
 
-    /// The one of this name.
-    pub(crate) fn find(&self, name: &Name) -> Option<Local> {
-        self.all.get(self.place(name)?).copied()
-    }
-
     /// The one of this name, to note something of it.
     pub(crate) fn find_mut(&mut self, name: &Name) -> Option<&mut Local> {
         let place = self.place(name)?;
@@ -200,6 +195,6 @@ impl Locals {
 
     /// The one whose name a branch is.
     pub(crate) fn of(&self, tree: &Tree<'_>, index: usize) -> Option<Local> {
-        self.find(&tree.name(index)?)
+        self.all.get(self.place(&tree.name(index)?)?).copied()
     }
 }

@@ -124,7 +124,12 @@ fn tell(cautions: &mut Vec<Caution>, caution: &Caution) -> Result<(), AllocError
     ensures { IfOk result (λ done. cautions.new.items ≡ with_caution caution.now cautions.old.items) }
 {
     if cautions.len() < MOST_CAUTIONS {
-        cautions.push(*caution)?;
+        cautions.push(Caution {
+            warning: caution.warning,
+            name: caution.name,
+            place: caution.place,
+            related: caution.related,
+        })?;
     }
     Ok(())
 }

@@ -43,14 +43,11 @@ impl<'a> Tokens<'a> {
     }
 
     pub(crate) fn place(&self, token: usize) -> TokenPlace {
-        match self.places.get(token) {
-            Some(place) => *place,
-            None => TokenPlace {
-                line: 1,
-                start: 0,
-                len: 1,
-            },
-        }
+        self.places.get(token).copied().unwrap_or(TokenPlace {
+            line: 1,
+            start: 0,
+            len: 1,
+        })
     }
 
     /// Whether the next token stands directly after this one.
