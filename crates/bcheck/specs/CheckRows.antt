@@ -1,6 +1,6 @@
 -- Closed facts: what is told of a source, each at its limits and one past them.
 use Rattle.std.specs.Prelude.{◌≡◌, ◌<◌, ◌≤◌, ◌⊎◌, ℕ, List, [], ◌∷◌, ◌++◌, codes, length, map, Option, None, Some, refl}
-use Rattle.std.specs.Prelude.{drop, false, take, true}
+use Rattle.std.specs.Prelude.{drop, false, replicate, take, true}
 use Rattle.std.specs.Fmt.{digits}
 use Rattle.bword.specs.declared.edition.Edition.TheVariants as editions
 use Rattle.blang.specs.declared.token.Diagnostic.{Diagnostic}
@@ -156,18 +156,15 @@ warning_codes = refl
 by_rules : rule_codes
     ≡ codes "and" ∷ codes "op" ∷ codes "if" ∷ codes "em" ∷ codes "sg" ∷ codes "en" ∷ codes "st" ∷ codes "no"
     ∷ codes "bs" ∷ codes "pr" ∷ codes "rt" ∷ codes "us" ∷ codes "ed" ∷ codes "tr" ∷ codes "di" ∷ codes "es" ∷ codes "sw"
-    ∷ []
+    ∷ codes "ix" ∷ codes "lp" ∷ []
 by_rules = refl
 
-of_rules : map is_rule_code rule_codes
-    ≡ true ∷ true ∷ true ∷ true ∷ true ∷ true ∷ true ∷ true ∷ true ∷ true ∷ true ∷ true ∷ true ∷ true ∷ true ∷ true ∷ true
-    ∷ []
+of_rules : map is_rule_code rule_codes ≡ replicate 19 true
 of_rules = refl
 
 not_of_rules : map is_rule_code
-    (codes "*/" ∷ codes "ix" ∷ codes "in" ∷ codes "ar" ∷ codes "hi" ∷ codes "ma" ∷ codes "lp" ∷ codes "la" ∷ codes "nu"
-    ∷ codes "sx" ∷ codes "an" ∷ codes "andd" ∷ [] ∷ [])
-    ≡ false ∷ false ∷ false ∷ false ∷ false ∷ false ∷ false ∷ false ∷ false ∷ false ∷ false ∷ false ∷ false ∷ []
+    (codes "*/" ∷ codes "in" ∷ codes "ar" ∷ codes "hi" ∷ codes "ma" ∷ codes "la" ∷ codes "nu" ∷ codes "sx" ∷ codes "an"
+    ∷ codes "andd" ∷ [] ∷ []) ≡ replicate 11 false
 not_of_rules = refl
 
 -- the line and the column of a place after a text

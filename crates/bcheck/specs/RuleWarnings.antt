@@ -178,7 +178,8 @@ warning_code (warning.Slip s) = slip_code s
 abbrev pub rule_codes : List (List ℕ)
 rule_codes =
     codes "and" ∷ codes "op" ∷ codes "if" ∷ codes "em" ∷ codes "sg" ∷ codes "en" ∷ codes "st" ∷ codes "no" ∷ codes "bs"
-    ∷ codes "pr" ∷ codes "rt" ∷ codes "us" ∷ codes "ed" ∷ codes "tr" ∷ codes "di" ∷ codes "es" ∷ codes "sw" ∷ []
+    ∷ codes "pr" ∷ codes "rt" ∷ codes "us" ∷ codes "ed" ∷ codes "tr" ∷ codes "di" ∷ codes "es" ∷ codes "sw" ∷ codes "ix"
+    ∷ codes "lp" ∷ []
 
 abbrev pub is_rule_code : List ℕ → Bool
 is_rule_code code = list_any (same_name code) rule_codes

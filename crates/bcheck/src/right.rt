@@ -19,9 +19,9 @@ use bword::Edition;
 use std::alloc::{AllocError, Global};
 
 /// The codes that rules alone give.
-const RULE_CODES: [&str; 17] = [
+const RULE_CODES: [&str; 19] = [
     "and", "op", "if", "em", "sg", "en", "st", "no", "bs", "pr", "rt", "us", "ed", "tr", "di",
-    "es", "sw",
+    "es", "sw", "ix", "lp",
 ];
 
 /// Whether a source of these files compiles and loads, and has no finding of a code that rules alone give.
