@@ -20,7 +20,7 @@ use btree::{Construct as U, Node as X};
 use bword::BinOp as Y;
 use bword::BinOp::{Add, And, Div, Eq, Ge, Gt, Le, Lt, Mul, Ne, Or, Rem, Sub};
 
-// What most rules have: which look at what was found, at the function, or at the whole source; and the same of exact ones.
+// What rules have that look at what was found, at the function, or at the whole source; and the same of exact ones.
 #[rattlefmt::skip]
 const NEAR: Z = Z { number: 0, pattern: 0, condition: 0, named: NO_HOLE, beside: NO_HOLE, is_loose: true,
     looks_around: false, looks_far: false };
