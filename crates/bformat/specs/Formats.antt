@@ -1,5 +1,5 @@
 -- Promise: what is written of a source that is laid out: its own tokens and comments, between other blanks.
-use Rattle.std.specs.Prelude.{◌≡◌, ◌≢◌, ℕ, Bool, true, false, List, map, ◌⊎◌}
+use Rattle.std.specs.Prelude.{◌≡◌, ◌≢◌, ◌≤◌, ◌*◌, ℕ, Bool, true, false, List, length, map, ◌⊎◌}
 use Rattle.std.specs.List.{list_any}
 use Rattle.bword.specs.declared.edition.Edition.{Edition}
 use Rattle.bword.specs.ByteEnds.{Outgoing}
@@ -9,7 +9,7 @@ use Rattle.blang.specs.declared.status.TheConstants.{DONE, MEMORY}
 use Rattle.blang.specs.declared.token.Token.{Token}
 use Rattle.blang.specs.declared.token.Token.TheVariants as token
 use Rattle.btools.specs.Programs.{WasCompiled}
-use Rattle.bformat.specs.declared.formatting.TheConstants.{CHANGES}
+use Rattle.bformat.specs.declared.formatting.TheConstants.{CHANGES, MOST_BYTES}
 use Rattle.bformat.specs.Pieces.{pieces_of}
 
 -- the tokens of a source, without their lines
@@ -25,10 +25,11 @@ abbrev pub has_wrong_token : Edition → List ℕ → Bool
 has_wrong_token edition source = list_any is_wrong (tokens_of edition source)
 
 -- The text has the comments and tokens of the source, in order and each to the byte. Only what is blank between them
--- differs.
+-- differs, and that is bounded.
 pub record IsLayout (edition : Edition) (source text : List ℕ) : Type 0 where
   pub pieces : pieces_of edition text ≡ pieces_of edition source
   pub tokens : tokens_of edition text ≡ tokens_of edition source
+  pub size : length text ≤ MOST_BYTES * length source
 
 -- a source in an edition, whether it is only looked at, the two streams, before and after, and the status
 pub record Format : Type 0 where

@@ -1,5 +1,5 @@
 //! Laying a source out.
-ghost use Rattle.std.specs.Prelude.{ℕ, List, ◌≡◌, IfOk, MatchOption, false, true};
+ghost use Rattle.std.specs.Prelude.{ℕ, List, ◌≡◌, ◌≤◌, ◌*◌, IfOk, IsTrue, MatchOption, false, length, true};
 ghost use Rattle.bword.specs.declared.edition.Edition.{Edition};
 ghost use Rattle.bformat.specs.FormatExcluded.{ChecksAsWritten, WrongLayouts};
 ghost use Rattle.bformat.specs.Formats.{FormatsBy, IsLayout, Shows, has_wrong_token};
@@ -16,6 +16,9 @@ use std::alloc::{AllocError, Global};
 
 /// The status where a source was only looked at, and would be laid out otherwise.
 pub const CHANGES: Status = 2;
+
+/// A layout has at most so many bytes for each byte of its source.
+pub const MOST_BYTES: usize = 163;
 
 /// A style of layouts. `format` knows nothing of it, so what it writes or compares can only come from a call.
 pub trait Style {
@@ -110,12 +113,27 @@ fn layout(
     ensures { IfOk result (IsLayout edition source.now) }
 {
     let text = lay_out(alloc, pieces)?;
+    if !is_within(text.as_slice(), source) {
+        return unchanged(alloc, source);
+    }
     if has_pieces(text.as_slice(), edition, pieces) {
         return Ok(text);
     }
-    let mut unchanged = Text::new(alloc);
-    unchanged.push(source)?;
-    Ok(unchanged)
+    unchanged(alloc, source)
+}
+
+fn is_within(text: &[u8], source: &[u8]) -> bool
+    ensures { IsTrue result → length text.now ≤ MOST_BYTES * length source.now }
+{
+    text.len() <= source.len().saturating_mul(MOST_BYTES)
+}
+
+fn unchanged(alloc: Global, source: &[u8]) -> Result<Text, AllocError>
+    ensures { IfOk result (λ text. text ≡ source.now) }
+{
+    let mut text = Text::new(alloc);
+    text.push(source)?;
+    Ok(text)
 }
 
 // Writes the text, or says whether it differs from the source.
