@@ -1,15 +1,16 @@
 //! Places of a source, found from the left.
-ghost use Rattle.std.specs.Prelude.{◌≡◌, ◌≤◌, length};
+ghost use Rattle.std.specs.Prelude.{◌≡◌, ◌≤◌, IfOk, length};
 ghost use Rattle.bnaming.specs.Spots.{IsMark, spot_at};
 
 use bplaces::{UnitPlace, next_column, next_line};
+use std::alloc::AllocError;
 
 /// A place: its line, and its columns in bytes and in units of UTF-16, from 1.
 #[derive(Clone, Copy)]
 pub(crate) struct Spot {
-    pub line: u64,
-    pub column: usize,
-    pub unit: usize,
+    pub line: u32,
+    pub column: u32,
+    pub unit: u32,
 }
 
 /// How far a source was read.
@@ -63,16 +64,20 @@ impl Mark {
         }
     }
 
-    /// Where that is.
-    pub(crate) fn spot(self, source: &[u8]) -> Spot
+    /// Where that is. No memory holds the rows of a source that is longer than these numbers.
+    pub(crate) fn spot(self, source: &[u8]) -> Result<Spot, AllocError>
         requires { IsMark source.now self }
-        ensures { result ≡ spot_at source.now self.at }
+        ensures { IfOk result (λ s. s ≡ spot_at source.now self.at) }
     {
         let _ = source;
-        Spot {
-            line: self.line,
-            column: self.column,
-            unit: self.units.column,
+        let largest = u32::MAX as usize;
+        if self.line > u64::from(u32::MAX) || self.column > largest || self.units.column > largest {
+            return Err(AllocError);
         }
+        Ok(Spot {
+            line: self.line as u32,
+            column: self.column as u32,
+            unit: self.units.column as u32,
+        })
     }
 }

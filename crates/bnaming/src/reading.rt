@@ -79,23 +79,23 @@ pub(crate) fn pieces_of(
         }
         let first = mark.to(source, found.first);
         mark = first.to(source, found.end);
-        pieces.push(placed(source, &found, first, mark))?;
+        pieces.push(placed(source, &found, first, mark)?)?;
     }
 }
 
 // A piece between two marks.
-fn placed(source: &[u8], found: &PlacedPiece, first: Mark, end: Mark) -> Piece
+fn placed(source: &[u8], found: &PlacedPiece, first: Mark, end: Mark) -> Result<Piece, AllocError>
     requires first { IsMark source.now first }
     requires end { IsMark source.now end }
     requires begins { first.at ≡ found.now.first }
     requires ends { end.at ≡ found.now.end }
-    ensures { result ≡ placed source.now found.now }
+    ensures { IfOk result (λ piece. piece ≡ placed source.now found.now) }
 {
-    Piece {
+    Ok(Piece {
         lexeme: found.lexeme,
-        first: first.spot(source),
-        end: end.spot(source),
-    }
+        first: first.spot(source)?,
+        end: end.spot(source)?,
+    })
 }
 
 fn is_end(lexeme: Option<Lexeme>) -> bool

@@ -1,7 +1,9 @@
 //! Rows as objects of JSON.
 ghost use Rattle.std.specs.Prelude.{◌≡◌, ◌++◌, OnOk};
 ghost use Rattle.bsources.specs.Files.{files_shown};
-ghost use Rattle.bnaming.specs.Texts.{comment_text, construct_word, content_kind, content_text, declared_text, ends_text, kind_word, member_text, name_text, place_text, role_word, row_text, token_word};
+ghost use Rattle.bnaming.specs.Texts.{at_text, comment_text, construct_word, content_kind, content_text, declared_text, end_text, kind_word};
+ghost use Rattle.bnaming.specs.Texts.{member_text, name_text, place_text, role_word, row_text, span_text, spot_text, token_word};
+ghost use Rattle.bnaming.specs.Texts.{unit_text, units_text};
 
 use crate::fragments::{Fragment, push_all};
 use crate::places::Spot;
@@ -22,8 +24,8 @@ pub(crate) fn push_comment(
 ) -> Result<(), AllocError>
     ensures { OnOk result (text.new ≡ text.old ++ comment_text (files_shown files.now) comment.now) }
 {
-    text.push(b"{\"what\":\"comment\"")?;
-    push_ends(text, files, comment.first, comment.end)?;
+    text.push(b"{\"comment\":1")?;
+    push_span(text, files, comment.first, comment.end)?;
     text.push(b"}\n")
 }
 
@@ -37,8 +39,8 @@ pub(crate) fn push_row(
     ensures { OnOk result (text.new ≡ text.old ++ row_text (files_shown files.now) row.now bound) }
 {
     push_content(text, row.content, &bound)?;
-    push_ends(text, files, row.first, row.end)?;
-    push_declared(text, files, bound)?;
+    push_at(text, files, row.content, row.first, row.end)?;
+    push_declared(text, files, row.first, bound)?;
     text.push(b"}\n")
 }
 
@@ -48,15 +50,11 @@ fn push_content(text: &mut Text, content: Content, bound: &Option<Row>) -> Resul
     match content {
         Content::Begins(construct) => push_member(
             text,
-            b"{\"what\":\"begins\",\"construct\":\"",
+            b"{\"begins\":\"",
             construct_word(construct),
         ),
-        Content::Ends => text.push(b"{\"what\":\"ends\""),
-        Content::Other(token) => push_member(
-            text,
-            b"{\"what\":\"token\",\"token\":\"",
-            token_word(token),
-        ),
+        Content::Ends => text.push(b"{\"ends\":1"),
+        Content::Other(token) => push_member(text, b"{\"token\":\"", token_word(token)),
         Content::Name(role, name) => push_name(text, role, &name, bound),
     }
 }
@@ -85,7 +83,7 @@ fn push_name(
     push_all(
         text,
         &[
-            Fragment::Words(b"{\"what\":\"name\",\"name\":\""),
+            Fragment::Words(b"{\"name\":\""),
             Fragment::Words(name.as_bytes()),
             Fragment::Words(b"\",\"role\":\""),
             Fragment::Words(role_word(role)),
@@ -96,33 +94,67 @@ fn push_name(
     )
 }
 
+// Adds where what is in a row stands.
+fn push_at(
+    text: &mut Text,
+    files: &SourceFiles<'_>,
+    content: Content,
+    first: Spot,
+    end: Spot,
+) -> Result<(), AllocError>
+    ensures { OnOk result (text.new ≡ text.old ++ at_text (files_shown files.now) content first end) }
+{
+    match content {
+        Content::Begins(_) | Content::Ends => push_spot(text, files, b",\"at\":[", first),
+        Content::Name(_, _) | Content::Other(_) => push_span(text, files, first, end),
+    }
+}
+
 // Adds where something begins, and where it ends.
-fn push_ends(
+fn push_span(
     text: &mut Text,
     files: &SourceFiles<'_>,
     first: Spot,
     end: Spot,
 ) -> Result<(), AllocError>
-    ensures { OnOk result (text.new ≡ text.old ++ ends_text (files_shown files.now) first end) }
+    ensures { OnOk result (text.new ≡ text.old ++ span_text (files_shown files.now) first end) }
 {
     push_place(text, files, b",\"at\":[", first)?;
-    push_place(text, files, b",\"end\":[", end)
+    push_end(text, files, first, end)?;
+    push_units(text, first, end)
 }
 
 fn push_declared(
     text: &mut Text,
     files: &SourceFiles<'_>,
+    here: Spot,
     bound: Option<Row>,
 ) -> Result<(), AllocError>
-    ensures { OnOk result (text.new ≡ text.old ++ declared_text (files_shown files.now) bound) }
+    ensures { OnOk result (text.new ≡ text.old ++ declared_text (files_shown files.now) here bound) }
 {
-    match bound {
-        Some(row) => push_place(text, files, b",\"declared\":[", row.first),
-        None => Ok(()),
+    let Some(row) = bound else {
+        return Ok(());
+    };
+    if here.line == row.first.line && here.column == row.first.column {
+        return Ok(());
     }
+    push_spot(text, files, b",\"declared\":[", row.first)
 }
 
 // Adds a place, after the beginning of its list.
+fn push_spot<'a>(
+    text: &mut Text,
+    files: &SourceFiles<'a>,
+    head: &'a [u8],
+    spot: Spot,
+) -> Result<(), AllocError>
+    ensures { OnOk result (text.new ≡ text.old ++ spot_text (files_shown files.now) head.now spot) }
+{
+    push_place(text, files, head, spot)?;
+    push_unit(text, spot)
+}
+
+// Adds the file, the line in that and the column of a place.
 fn push_place<'a>(
     text: &mut Text,
     files: &SourceFiles<'a>,
@@ -131,7 +163,7 @@ fn push_place<'a>(
 ) -> Result<(), AllocError>
     ensures { OnOk result (text.new ≡ text.old ++ place_text (files_shown files.now) head.now spot) }
 {
-    let at = files.own_line(spot.line);
+    let at = files.own_line(u64::from(spot.line));
     push_all(
         text,
         &[
@@ -140,9 +172,71 @@ fn push_place<'a>(
             Fragment::Words(b","),
             Fragment::Number(at.line),
             Fragment::Words(b","),
-            Fragment::Number(spot.column as u64),
+            Fragment::Number(u64::from(spot.column)),
+        ],
+    )
+}
+
+// Ends the list of a place.
+fn push_unit(text: &mut Text, spot: Spot) -> Result<(), AllocError>
+    ensures { OnOk result (text.new ≡ text.old ++ unit_text spot) }
+{
+    if spot.column == spot.unit {
+        return text.push(b"]");
+    }
+    push_all(
+        text,
+        &[
             Fragment::Words(b","),
-            Fragment::Number(spot.unit as u64),
+            Fragment::Number(u64::from(spot.unit)),
+            Fragment::Words(b"]"),
+        ],
+    )
+}
+
+// Ends the list of where something begins and ends.
+fn push_end(
+    text: &mut Text,
+    files: &SourceFiles<'_>,
+    first: Spot,
+    end: Spot,
+) -> Result<(), AllocError>
+    ensures { OnOk result (text.new ≡ text.old ++ end_text (files_shown files.now) first end) }
+{
+    let column = Fragment::Number(u64::from(end.column));
+    if first.line == end.line {
+        return push_all(
+            text,
+            &[Fragment::Words(b","), column, Fragment::Words(b"]")],
+        );
+    }
+    let at = files.own_line(u64::from(end.line));
+    push_all(
+        text,
+        &[
+            Fragment::Words(b","),
+            Fragment::Number(at.line),
+            Fragment::Words(b","),
+            column,
+            Fragment::Words(b"]"),
+        ],
+    )
+}
+
+// Adds both columns in units of UTF-16, where one is another one.
+fn push_units(text: &mut Text, first: Spot, end: Spot) -> Result<(), AllocError>
+    ensures { OnOk result (text.new ≡ text.old ++ units_text first end) }
+{
+    if first.column == first.unit && end.column == end.unit {
+        return Ok(());
+    }
+    push_all(
+        text,
+        &[
+            Fragment::Words(b",\"utf16\":["),
+            Fragment::Number(u64::from(first.unit)),
+            Fragment::Words(b","),
+            Fragment::Number(u64::from(end.unit)),
             Fragment::Words(b"]"),
         ],
     )

@@ -16,7 +16,7 @@ loop-scanner-preserved c =
     let finds = c.next-found.ensures.finds in
     let source = c.args.source.now in
     let found = found_in _ _ _ c.args.edition source finds i.edition i.source in
-    let more = reads_more c.args.edition source _ _ c.next-found.result found i.reads c.placed.result c.placed.ensures (sym c.is_end.ensures ∙ c.if-is_end.false) in
+    let more = reads_more c.args.edition source _ _ c.next-found.result found i.reads c.in_ok-placed.field-0 c.in_ok-placed.ensures (sym c.is_end.ensures ∙ c.if-is_end.false) in
     record {
       reads = subst (λ at. Reads c.args.edition source c.push.new.self.items at) (sym finds.at)
           (subst (λ (ps : List Piece). Reads c.args.edition source ps c.next-found.result.end) (sym c.in_ok-push.ensures.items) more);

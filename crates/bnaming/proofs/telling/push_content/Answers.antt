@@ -7,7 +7,7 @@ pub returns-in-Begins : goal.returns-in-Begins
 returns-in-Begins c =
     let old = c.args.text.now in
     on_ok_weaker c.push_member.result (λ e.
-    e ∙ ap (λ w. old ++ member_text (codes "{\"what\":\"begins\",\"construct\":\"") w) c.construct_word.ensures
+    e ∙ ap (λ w. old ++ member_text (codes "{\"begins\":\"") w) c.construct_word.ensures
     ∙ ap (λ t. old ++ content_text t c.args.bound.now) (sym c.in-Begins.is))
     c.push_member.ensures
 
@@ -19,6 +19,6 @@ pub returns-in-Other : goal.returns-in-Other
 returns-in-Other c =
     let old = c.args.text.now in
     on_ok_weaker c.push_member-in-Other.result (λ e.
-    e ∙ ap (λ w. old ++ member_text (codes "{\"what\":\"token\",\"token\":\"") w) c.token_word.ensures
+    e ∙ ap (λ w. old ++ member_text (codes "{\"token\":\"") w) c.token_word.ensures
     ∙ ap (λ t. old ++ content_text t c.args.bound.now) (sym c.in-Other.is))
     c.push_member-in-Other.ensures
