@@ -380,9 +380,10 @@ external, parameter, automatic, extrn, label, mention or value. Its kind is the
 role in which it is declared, and the place of that is told, too. A name that
 this source doesn't declare is undefined.
 
-A place has the file, the line in it, and the column, in bytes and in units of
-UTF-16; end is the place after the last byte. A source at fault has its names,
-too. What is wrong is no token.
+A place has the file, the line in it, and the column in bytes. Of a token, the
+column after its last byte comes next, after its line if that is another one.
+Columns in units of UTF-16 are told where they are others. A source at fault has
+its names, too. What is wrong is no token.
 
 Examples:
   b names --json hello.b
