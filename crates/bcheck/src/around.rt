@@ -1,6 +1,6 @@
 //! What is around a token with which no program goes on.
 use crate::compiled::Extent;
-use crate::kinds::{closes_bracket, is_word, opens_bracket};
+use crate::kinds::{closes_bracket, opens_bracket};
 use crate::spans::{Spans, lexeme_at};
 use blex::Lexeme;
 use btree::{Construct, Sort, Tag, tags_of};
@@ -134,11 +134,6 @@ impl Around {
             Some(token) => lexeme_at(spans, token) == opener,
             None => false,
         }
-    }
-
-    /// Whether the bracket that is open is the parenthesis after this name.
-    pub(crate) fn is_call_of(&self, spans: &Spans, word: &str) -> bool {
-        self.is_in(spans, Lexeme::OpenParen) && is_word(&lexeme_at(spans, self.head()), word)
     }
 }
 

@@ -1,6 +1,6 @@
 //! A `{` or a `}` that is missing, where the layout of the lines shows its place.
 use crate::around::opener_of;
-use crate::draft::Draft;
+use crate::draft::{Draft, Stop};
 use crate::kinds::Like;
 use crate::name_mends::body_of;
 use crate::near::near_keyword;
@@ -9,14 +9,13 @@ use crate::syntax_mends::{after_brackets, statement_of};
 use crate::warning_mends::is_function;
 use blang::Keyword;
 use blex::Lexeme;
-use std::alloc::AllocError;
 
 /// How many letters an `if` has that is mistyped, at most.
 const LONGEST_IF: usize = 3;
 
 /// A `{` after the head of the function before, or after a heading in it, whose lines stand farther in and end with a
 /// `}`. Whether there is such a place.
-pub(crate) fn brace_by_lines(draft: &mut Draft<'_>) -> Result<bool, AllocError> {
+pub(crate) fn brace_by_lines(draft: &mut Draft<'_>) -> Result<bool, Stop> {
     let site = draft.site;
     if site.before == site.first {
         return Ok(false);
@@ -26,13 +25,10 @@ pub(crate) fn brace_by_lines(draft: &mut Draft<'_>) -> Result<bool, AllocError> 
     } else {
         heading_end(draft)
     };
-    match place {
-        Some(closer) => {
-            draft.after(closer, b" {")?;
-            Ok(true)
-        }
-        None => Ok(false),
+    if let Some(closer) = place {
+        draft.after(closer, b" {")?;
     }
+    Ok(place.is_some())
 }
 
 /// How far in the line of a token stands.

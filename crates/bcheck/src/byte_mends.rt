@@ -1,9 +1,9 @@
 //! Edits for bytes that begin no token, and for wrong constants.
 use crate::bytes::{Byte, Constant};
-use crate::draft::{Draft, Drafted};
+use crate::draft::{Draft, Drafted, Stop, only_if};
 use crate::kinds::Like;
 use crate::own_parts::line_start;
-use blex::Lexeme;
+use blex::{Lexeme, escape};
 
 /// How many bytes of values are looked at, at most, after a string whose quote is missing.
 const LONGEST_VALUES: usize = 255;
@@ -110,10 +110,8 @@ pub(crate) fn constant(draft: &mut Draft<'_>, constant: Constant, token: usize) 
 
 /// `*/` in the place of a `*n/` of a comment without an end, which begins at a place.
 pub(crate) fn comment(draft: &mut Draft<'_>, start: usize) -> Drafted {
-    match newline_end(draft.source, start) {
-        Some(place) => draft.put(place, place.saturating_add(3), b"*/"),
-        None => Ok(()),
-    }
+    let place = newline_end(draft.source, start).ok_or(Stop::Unfit)?;
+    draft.put(place, place.saturating_add(3), b"*/")
 }
 
 /// Where a `*n/` stands, from a place on.
@@ -138,15 +136,12 @@ fn as_string(draft: &mut Draft<'_>, line: &[u8], token: usize) -> Drafted {
     let words = line.get(1..).unwrap_or(&[]);
     let opening = Like::Either(Lexeme::OpenParen, Lexeme::Comma);
     let is_argument = draft.is(token.wrapping_sub(1), &opening);
-    let Some(index) = words.iter().position(|byte| *byte == b'\'') else {
-        return Ok(());
-    };
+    let closer = words.iter().position(|byte| *byte == b'\'');
+    let index = closer.ok_or(Stop::Unfit)?;
     let inner = words.get(..index).unwrap_or(&[]);
     let rest = words.get(index.saturating_add(1)..).unwrap_or(&[]);
     let quotes = rest.iter().filter(|byte| **byte == b'\'').count();
-    if !is_argument && inner.len() <= WORD_LETTERS || quotes % 2 == 1 {
-        return Ok(());
-    }
+    only_if((is_argument || inner.len() > WORD_LETTERS) && quotes % 2 == 0)?;
     let end = start.saturating_add(index).saturating_add(2);
     draft.fill(start, end, "\"%0\"", &[inner])
 }
@@ -266,12 +261,7 @@ fn doubled(draft: &mut Draft<'_>, line: &[u8], start: usize) -> Drafted {
     let mut is_escaped = false;
     for index in 1..line.len() {
         let byte = line.get(index).copied().unwrap_or(b'n');
-        if is_escaped
-            && !matches!(
-                byte,
-                b'0' | b'e' | b'(' | b')' | b't' | b'*' | b'\'' | b'"' | b'n'
-            )
-        {
+        if is_escaped && escape(byte).is_none() {
             let place = start.saturating_add(index);
             return draft.put(place, place, b"*");
         }

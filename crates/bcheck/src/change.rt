@@ -12,13 +12,14 @@ use crate::bytes::Constant;
 use crate::edit::{Edit, Proposal};
 use crate::explain::findings;
 use crate::finding::Finding;
+use crate::kinds::Like;
 use crate::mending::{Bench, TRIED_BYTES, only_edit};
 use crate::mends::{proposals, token_at, tokens_of};
 use crate::pieces::push_change;
 use crate::places::{milestones, parts};
 use crate::right::is_of_rules;
 use crate::semicolon_mends::{is_of_assignment, semicolons};
-use crate::spans::{SourceText, Spans, lexeme_at};
+use crate::spans::{SourceText, Spans, lexeme_at, name_at};
 use crate::spares::spares;
 use crate::verdict::judge;
 use blang::status;
@@ -145,41 +146,22 @@ fn first_change(
     Ok(None)
 }
 
-// Whether what is found is a fault, or can't be meant.
+// Whether what is found is a fault, or can't be meant: what a call gives or a constant is assigned.
 fn is_certain(tokens: &Spans, finding: &Finding) -> bool {
     let token = token_at(tokens, finding.place.start);
+    let (next, second) = (token.wrapping_add(1), token.wrapping_add(2));
     match finding.matter {
         Matter::Warning(Warning::ComparesAlone | Warning::InputEnd | Warning::NameAlone) => true,
-        Matter::Warning(Warning::AssignsComparison) => assigns_call(tokens, token),
-        Matter::Warning(Warning::ConditionAssigns) => assigns_constant(tokens, token),
+        Matter::Warning(Warning::AssignsComparison) => {
+            name_at(tokens, next).is_some() && lexeme_at(tokens, second) == Lexeme::OpenParen
+        }
+        Matter::Warning(Warning::ConditionAssigns) => {
+            lexeme_at(tokens, token) == Lexeme::Assign(None)
+                && Like::Constant.fits(&lexeme_at(tokens, next))
+        }
         Matter::Warning(_) | Matter::Constant(Constant::Escape | Constant::Characters) => false,
         _ => true,
     }
-}
-
-// Whether a token assigns, and a call comes after it.
-fn assigns_call(tokens: &Spans, token: usize) -> bool {
-    matches!(
-        (
-            lexeme_at(tokens, token.wrapping_add(1)),
-            lexeme_at(tokens, token.wrapping_add(2)),
-        ),
-        (Lexeme::Name(_), Lexeme::OpenParen)
-    )
-}
-
-// Whether a token assigns the constant after it.
-fn assigns_constant(tokens: &Spans, token: usize) -> bool {
-    matches!(
-        (
-            lexeme_at(tokens, token),
-            lexeme_at(tokens, token.wrapping_add(1))
-        ),
-        (
-            Lexeme::Assign(None),
-            Lexeme::Number(_) | Lexeme::Character(_)
-        )
-    )
 }
 
 // The change that one of the proposals is, where that one alone mends what was found, within so many bytes.

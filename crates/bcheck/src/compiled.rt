@@ -43,14 +43,12 @@ impl Compiled {
     /// The tokens of a definition that was written, or those that were read after all of these.
     pub(crate) fn extent(&self, definition: usize) -> Extent {
         Extent {
-            first: self.end_before(definition).unwrap_or(0),
+            first: match definition.checked_sub(1) {
+                Some(before) => self.ends.get(before).copied().unwrap_or(0),
+                None => 0,
+            },
             end: self.ends.get(definition).copied().unwrap_or(self.end),
         }
-    }
-
-    // The place after the last token of the definition before this one, if there is one.
-    fn end_before(&self, definition: usize) -> Option<usize> {
-        self.ends.get(definition.checked_sub(1)?).copied()
     }
 }
 

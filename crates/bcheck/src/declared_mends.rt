@@ -1,7 +1,8 @@
 //! Declarations of other languages in the words of this one.
-use crate::draft::{Draft, Drafted};
+use crate::draft::{Draft, Drafted, Stop, only_if};
 use crate::foreign::heading_word;
 use crate::kinds::{Like, depth_after, is_ended, is_type_name};
+use crate::own_parts::Pushed;
 use blang::Keyword;
 use blex::Lexeme;
 use btools::Text;
@@ -18,9 +19,7 @@ fn is_left_out(lexeme: &Lexeme) -> bool {
 
 /// A declaration in a function, whose values are assigned after it.
 pub(crate) fn local(draft: &mut Draft<'_>, first: usize) -> Drafted {
-    let Some(end) = draft.on_line(first, Lexeme::Semicolon) else {
-        return Ok(());
-    };
+    let end = draft.on_line(first, Lexeme::Semicolon)?;
     if let Some(callee) = called_in(draft, first, end) {
         draft.is_sure = true;
         return draft.after(callee.wrapping_sub(1), b";");
@@ -47,18 +46,12 @@ fn called_in(draft: &Draft<'_>, first: usize, end: usize) -> Option<usize> {
 
 /// A declaration of externals in a function, which has names alone. One with values says more.
 pub(crate) fn names_alone(draft: &mut Draft<'_>, first: usize) -> Drafted {
-    let Some(end) = draft.on_line(first, Lexeme::Semicolon) else {
-        return Ok(());
-    };
+    let end = draft.on_line(first, Lexeme::Semicolon)?;
     if let Some(callee) = called_in(draft, first, end) {
         draft.is_sure = true;
         return draft.after(callee.wrapping_sub(1), b";");
     }
-    for token in first..end {
-        if let Lexeme::Number(_) | Lexeme::Character(_) | Lexeme::Assign(_) = draft.at(token) {
-            return Ok(());
-        }
-    }
+    only_if(!draft.has(first, end, &Like::Constant) && !draft.has(first, end, &Like::Assigns))?;
     let mut text = draft.text();
     text.push(b"extrn ")?;
     push_names(&mut text, draft, first, end, false)?;
@@ -73,7 +66,7 @@ fn push_names(
     first: usize,
     end: usize,
     is_sized: bool,
-) -> Drafted {
+) -> Pushed {
     let mut is_value = false;
     let mut is_next = false;
     let mut depth: u64 = 0;
@@ -100,7 +93,7 @@ fn push_names(
 }
 
 // An assignment for each value between two tokens.
-fn push_values(text: &mut Text, draft: &Draft<'_>, first: usize, end: usize) -> Drafted {
+fn push_values(text: &mut Text, draft: &Draft<'_>, first: usize, end: usize) -> Pushed {
     let mut name = first;
     let mut from = None;
     let mut depth: u64 = 0;
@@ -128,12 +121,11 @@ fn push_value(
     name: usize,
     first: usize,
     last: usize,
-) -> Drafted {
+) -> Pushed {
+    text.push(b" ")?;
     if let Lexeme::OpenBrace | Lexeme::OpenBracket = draft.at(first) {
-        text.push(b" ")?;
         return push_each(text, draft, name, first, last);
     }
-    text.push(b" ")?;
     text.push(draft.bytes(name, name))?;
     text.push(b" = ")?;
     text.push(draft.bytes(first, last))?;
@@ -147,7 +139,7 @@ pub(crate) fn push_each(
     name: usize,
     opener: usize,
     closer: usize,
-) -> Drafted {
+) -> Pushed {
     let (mut from, mut count): (usize, u64) = (opener.saturating_add(1), 0);
     for token in from..closer.saturating_add(1) {
         if token != closer && draft.at(token) != Lexeme::Comma {
@@ -169,12 +161,8 @@ pub(crate) fn push_each(
 
 /// The head of a function without types.
 pub(crate) fn head(draft: &mut Draft<'_>, first: usize) -> Drafted {
-    let Some(end) = draft.on_line(first, Lexeme::CloseParen) else {
-        return Ok(());
-    };
-    let Some(opener) = draft.on_line(first, Lexeme::OpenParen) else {
-        return Ok(());
-    };
+    let end = draft.on_line(first, Lexeme::CloseParen)?;
+    let opener = draft.on_line(first, Lexeme::OpenParen)?;
     let mut text = draft.text();
     text.push(draft.bytes(opener.wrapping_sub(1), opener.wrapping_sub(1)))?;
     text.push(b"(")?;
@@ -185,15 +173,13 @@ pub(crate) fn head(draft: &mut Draft<'_>, first: usize) -> Drafted {
 
 /// An external with its values, without types and signs.
 pub(crate) fn definition(draft: &mut Draft<'_>, first: usize) -> Drafted {
-    let Some(end) = draft.on_line(first, Lexeme::Semicolon) else {
-        return Ok(());
-    };
+    let end = draft.on_line(first, Lexeme::Semicolon)?;
     let mut text = draft.text();
     let mut is_value = false;
     for token in first..end {
         let lexeme = draft.at(token);
         match lexeme {
-            Lexeme::OpenParen => return Ok(()),
+            Lexeme::OpenParen => return Err(Stop::Unfit),
             Lexeme::Assign(_) | Lexeme::OpenBrace | Lexeme::CloseBrace => is_value = true,
             Lexeme::Comma if is_value => text.push(b",")?,
             Lexeme::Comma => text.push(b"; ")?,
@@ -207,7 +193,7 @@ pub(crate) fn definition(draft: &mut Draft<'_>, first: usize) -> Drafted {
 }
 
 // One token of an external. A value has a blank before it, and a number after a sign is that of the same word.
-fn push_external(text: &mut Text, draft: &Draft<'_>, token: usize, is_value: bool) -> Drafted {
+fn push_external(text: &mut Text, draft: &Draft<'_>, token: usize, is_value: bool) -> Pushed {
     let before = draft.at(token.wrapping_sub(1));
     if is_value || before == Lexeme::CloseBracket || before == Lexeme::Operator(BinOp::Sub) {
         text.push(b" ")?;

@@ -2,17 +2,42 @@
 use crate::edit::Proposal;
 use crate::finding::Finding;
 use crate::kinds::Like;
-use crate::mends::Site;
+use crate::mends::{Site, token_at};
 use crate::number_mends::after_operand;
 use crate::own_parts::push_filled;
 use crate::spans::{Spans, lexeme_at};
 use crate::syntax_mends::after_brackets;
 use blex::Lexeme;
 use btools::Text;
-use std::alloc::{AllocError, Global};
+use bword::Name;
+use std::alloc::{AllocError, AllocFailed, Global};
 
-/// Nothing, or that memory ran out.
-pub(crate) type Drafted = Result<(), AllocError>;
+/// Why a mend goes no further: it doesn't fit what stands there, or memory ran out.
+#[derive(Debug, Drop)]
+pub(crate) enum Stop {
+    Unfit,
+    Memory,
+}
+
+impl From<AllocError> for Stop {
+    fn from(_error: AllocError) -> Stop {
+        Stop::Memory
+    }
+}
+
+impl<T: Drop> From<AllocFailed<T>> for Stop {
+    fn from(_failed: AllocFailed<T>) -> Stop {
+        Stop::Memory
+    }
+}
+
+/// Nothing, or why a mend goes no further.
+pub(crate) type Drafted = Result<(), Stop>;
+
+/// Goes on only where this holds.
+pub(crate) fn only_if(holds: bool) -> Drafted {
+    if holds { Ok(()) } else { Err(Stop::Unfit) }
+}
 
 /// Where the words of a row go, among what its kinds fit.
 #[derive(Clone, Copy)]
@@ -99,6 +124,33 @@ impl<'a> Draft<'a> {
     /// How many of them are of a kind.
     pub(crate) fn count(&self, first: usize, end: usize, kind: &Like) -> usize {
         (first..end).filter(|token| self.is(*token, kind)).count()
+    }
+
+    /// The name that a token is.
+    pub(crate) fn name_at(&self, token: usize) -> Result<Name, Stop> {
+        match self.at(token) {
+            Lexeme::Name(name) => Ok(name),
+            _ => Err(Stop::Unfit),
+        }
+    }
+
+    /// The name that was found fault with.
+    pub(crate) fn name(&self) -> Result<Name, Stop> {
+        self.finding.name.ok_or(Stop::Unfit)
+    }
+
+    /// The token at the second place.
+    pub(crate) fn second(&self) -> Result<usize, Stop> {
+        let place = self.finding.related.ok_or(Stop::Unfit)?;
+        Ok(token_at(self.spans, place.start))
+    }
+
+    /// What was drafted, up to where it went no further.
+    pub(crate) fn proposals(self, drafted: Drafted) -> Result<Vec<Proposal>, AllocError> {
+        match drafted {
+            Err(Stop::Memory) => Err(AllocError),
+            _ => Ok(self.all),
+        }
     }
 
     /// Where a token begins.
@@ -204,11 +256,6 @@ impl<'a> Draft<'a> {
         self.put(end, end, words)
     }
 
-    /// Proposes to take the tokens from one to another out, and no blank.
-    pub(crate) fn take_out(&mut self, first: usize, last: usize) -> Drafted {
-        self.replace(first, last, b"")
-    }
-
     /// Proposes what the first row says whose tokens are there.
     pub(crate) fn by_rows(&mut self, token: usize, rows: &[Row]) -> Drafted {
         for row in rows {
@@ -274,7 +321,7 @@ impl<'a> Draft<'a> {
         let end = match kind {
             Like::Group(opener) if self.at(at) == *opener => after_brackets(self, at),
             Like::Value => after_operand(self, at),
-            Like::Until(lexeme) => self.on_line(at, *lexeme)?,
+            Like::Until(lexeme) => self.on_line(at, *lexeme).ok()?,
             _ if kind.fits(&self.at(at)) => at.wrapping_add(1),
             _ => at,
         };
@@ -293,15 +340,12 @@ impl<'a> Draft<'a> {
     }
 
     /// The next token of this kind from a token on, that stands on the same line.
-    pub(crate) fn on_line(&self, from: usize, lexeme: Lexeme) -> Option<usize> {
-        for token in from..self.spans.end() {
-            if self.line(token) != self.line(from) {
-                return None;
-            }
-            if self.at(token) == lexeme {
-                return Some(token);
-            }
+    pub(crate) fn on_line(&self, from: usize, lexeme: Lexeme) -> Result<usize, Stop> {
+        let found = (from..self.spans.end()).find(|at| self.line(*at) != self.line(from)
+            || self.at(*at) == lexeme);
+        match found {
+            Some(token) if self.line(token) == self.line(from) => Ok(token),
+            _ => Err(Stop::Unfit),
         }
-        None
     }
 }

@@ -190,12 +190,8 @@ fn is_prototype(reader: &mut SpanReader<'_>, count: usize) -> bool {
 
 // The first place of a name between two tokens.
 fn first_place(spans: &Spans, from: usize, end: usize, name: Name) -> Option<Place> {
-    for token in from..end {
-        if lexeme_at(spans, token) == Lexeme::Name(name) {
-            return Some(place_of(spans, token));
-        }
-    }
-    None
+    let token = (from..end).find(|token| lexeme_at(spans, *token) == Lexeme::Name(name));
+    Some(place_of(spans, token?))
 }
 
 // The place of the token at fault among the tokens.
@@ -214,14 +210,10 @@ fn token_of(spans: &Spans, fault: &Fault) -> usize {
 
 /// The first token of this name on a line of a definition, after the definition's own name.
 pub(crate) fn token_named(spans: &Spans, extent: Extent, name: Name, line: u64) -> usize {
-    for token in extent.first.saturating_add(1)..extent.end {
-        if let Some(span) = spans.get(token) {
-            if span.lexeme == Lexeme::Name(name) && span.place.line == line {
-                return token;
-            }
-        }
-    }
-    extent.first
+    let found = (extent.first.saturating_add(1)..extent.end).find(|token| {
+        lexeme_at(spans, *token) == Lexeme::Name(name) && place_of(spans, *token).line == line
+    });
+    found.unwrap_or(extent.first)
 }
 
 // What is said of the diagnostics that need no token.

@@ -1,9 +1,9 @@
 //! Edits for `&&` and `||`, and for the words `and` and `or`. Each means the same as these do in other languages.
-use crate::around::opener_of;
-use crate::draft::{Draft, Drafted};
+use crate::draft::{Draft, Drafted, only_if};
 use crate::kinds::{
     Like, closes_bracket, depth_after, is_comparison, is_ended, is_word, opens_bracket,
 };
+use crate::syntax::{IF_WHILE, is_after};
 use crate::syntax_mends::after_brackets;
 use blang::Keyword;
 use blex::Lexeme;
@@ -62,10 +62,9 @@ pub(crate) fn mend_logic(
     let is_whole = joined.left < first
         && last < joined.right
         && ends_expression(&draft.at(joined.right.wrapping_add(1)));
-    if !is_whole {
-        return Ok(());
-    }
-    if logic == Logic::Or && has_logic(draft, joined.left, joined.right, Logic::And) {
+    only_if(is_whole)?;
+    let has_and = (joined.left..=joined.right).any(|token| Logic::And.is_at(draft, token));
+    if logic == Logic::Or && has_and {
         return single_signs(draft, &joined);
     }
     if is_of_bits(draft, &joined) {
@@ -103,20 +102,15 @@ fn single_signs(draft: &mut Draft<'_>, joined: &Joined) -> Drafted {
     let mut first = joined.right;
     for token in joined.left..joined.right {
         if Logic::And.is_at(draft, token) || Logic::Or.is_at(draft, token) {
-            if !Like::Operator.fits(&draft.at(token)) {
-                return Ok(());
-            }
+            only_if(draft.is(token, &Like::Operator))?;
             first = first.min(token);
             text.push(draft.slice(from, draft.end(token)))?;
             from = draft.end(token.wrapping_add(1));
         }
     }
     text.push(draft.slice(from, draft.end(joined.right)))?;
-    let is_same = is_truth(draft, joined.left, joined.right)
-        && has_no_effect(draft, first.wrapping_add(2), joined.right);
-    if !is_same {
-        return Ok(());
-    }
+    only_if(is_truth(draft, joined.left, joined.right))?;
+    only_if(has_no_effect(draft, first.wrapping_add(2), joined.right))?;
     draft.put_text(draft.start(joined.left), draft.end(joined.right), text)
 }
 
@@ -172,7 +166,7 @@ fn begins_after(draft: &Draft<'_>, logic: Logic, token: usize) -> bool {
     opens_bracket(&lexeme)
         || lexeme == Lexeme::CloseBrace
         || is_apart(&lexeme)
-        || ends_heading(draft, token)
+        || is_after(draft.spans, token, &IF_WHILE)
         || logic == Logic::And && (Logic::Or.is_at(draft, before) || is_word(&lexeme, "or"))
 }
 
@@ -219,17 +213,6 @@ fn ends_expression(lexeme: &Lexeme) -> bool {
     ) || is_word(lexeme, "or")
 }
 
-// Whether a token is the `)` after the condition of an `if` or a `while`.
-fn ends_heading(draft: &Draft<'_>, token: usize) -> bool {
-    if draft.at(token) != Lexeme::CloseParen {
-        return false;
-    }
-    match opener_of(draft.spans, token) {
-        Some(opener) => is_tested_by(&draft.at(opener.wrapping_sub(1))),
-        None => false,
-    }
-}
-
 fn is_tested_by(lexeme: &Lexeme) -> bool {
     matches!(lexeme, Lexeme::Keyword(Keyword::If | Keyword::While))
 }
@@ -268,11 +251,6 @@ fn has_at_level(draft: &Draft<'_>, from: usize, last: usize, lexeme: Lexeme) -> 
         depth = depth_after(depth, &here);
     }
     false
-}
-
-// Whether one of these tokens joins conditions so, by two signs or its word.
-fn has_logic(draft: &Draft<'_>, from: usize, last: usize, logic: Logic) -> bool {
-    (from..last.saturating_add(1)).any(|token| logic.is_at(draft, token))
 }
 
 // Whether these tokens do nothing, can't be a trap and read through no address.

@@ -1,7 +1,7 @@
 //! Which edits may mend a finding, the likelier first. They are tried before one is told.
 use crate::advice::Matter;
 use crate::compiled::Extent;
-use crate::draft::Draft;
+use crate::draft::{Draft, Drafted, only_if};
 use crate::edit::Proposal;
 use crate::finding::Finding;
 use crate::mending::Bench;
@@ -36,37 +36,54 @@ pub(crate) fn proposals(
     tokens: &Spans,
     finding: &Finding,
 ) -> Result<Vec<Proposal>, AllocError> {
-    let site = site_of(bench, tokens, finding);
-    let mut draft = Draft::new(alloc, bench.source.text, tokens, finding, site);
-    if bench.tries() == 0 || bench.files.beyond_first(finding.place.line).is_some() {
-        return Ok(draft.all);
-    }
-    let (token, start) = (site.token, finding.place.start);
-    match finding.matter {
-        Matter::Character(byte) => byte_mends::character(&mut draft, byte, start)?,
-        Matter::OpenComment => byte_mends::comment(&mut draft, start)?,
-        Matter::Constant(constant) => byte_mends::constant(&mut draft, constant, token)?,
-        Matter::Syntax(syntax) => syntax_mends::of_syntax(&mut draft, syntax)?,
-        Matter::PrototypeBefore => name_mends::prototype(&mut draft)?,
-        Matter::NameAgain => warning_mends::declared_again(&mut draft)?,
-        Matter::NotLvalue(lvalue) => name_mends::of_lvalue(&mut draft, lvalue)?,
-        Matter::Unknown(unknown) => name_mends::of_unknown(&mut draft, unknown)?,
-        Matter::NotDefined(undefined) => name_mends::of_undefined(&mut draft, undefined)?,
-        Matter::Warning(warning) => warning_mends::of_warning(&mut draft, warning)?,
-        _ => {}
-    }
-    Ok(draft.all)
+    let mut draft = draft_of(alloc, bench, tokens, finding);
+    let drafted = of_finding(&mut draft, bench);
+    draft.proposals(drafted)
 }
 
-/// Where a finding stands among these tokens.
-pub(crate) fn site_of(bench: &Bench<'_>, tokens: &Spans, finding: &Finding) -> Site {
-    let token = token_at(tokens, finding.place.start);
-    let (before, first) = firsts_of(bench.judgement.compiled.ends.as_slice(), token);
-    Site {
-        token,
-        first,
-        before,
+// Drafts edits of a finding.
+fn of_finding(draft: &mut Draft<'_>, bench: &Bench<'_>) -> Drafted {
+    only_if(is_tried(bench, draft.finding))?;
+    let (token, start) = (draft.site.token, draft.finding.place.start);
+    match draft.finding.matter {
+        Matter::Character(byte) => byte_mends::character(draft, byte, start),
+        Matter::OpenComment => byte_mends::comment(draft, start),
+        Matter::Constant(constant) => byte_mends::constant(draft, constant, token),
+        Matter::Syntax(syntax) => syntax_mends::of_syntax(draft, syntax),
+        Matter::PrototypeBefore => name_mends::prototype(draft),
+        Matter::NameAgain => warning_mends::declared_again(draft),
+        Matter::NotLvalue(lvalue) => name_mends::of_lvalue(draft, lvalue),
+        Matter::Unknown(unknown) => name_mends::of_unknown(draft, unknown),
+        Matter::NotDefined(undefined) => name_mends::of_undefined(draft, undefined),
+        Matter::Warning(warning) => warning_mends::of_warning(draft, warning),
+        _ => Ok(()),
     }
+}
+
+/// Whether edits of a finding are tried.
+pub(crate) fn is_tried(bench: &Bench<'_>, finding: &Finding) -> bool {
+    bench.tries() > 0 && bench.files.beyond_first(finding.place.line).is_none()
+}
+
+/// No proposals yet for a finding among these tokens.
+pub(crate) fn draft_of<'a>(
+    alloc: Global,
+    bench: &Bench<'a>,
+    tokens: &'a Spans,
+    finding: &'a Finding,
+) -> Draft<'a> {
+    let token = token_at(tokens, finding.place.start);
+    let mut site = Site {
+        token,
+        first: 0,
+        before: 0,
+    };
+    for end in bench.judgement.compiled.ends.as_slice() {
+        if *end <= token {
+            (site.before, site.first) = (site.first, *end);
+        }
+    }
+    Draft::new(alloc, bench.source.text, tokens, finding, site)
 }
 
 /// The last token that begins at a place or before it.
@@ -80,16 +97,4 @@ pub(crate) fn token_at(tokens: &Spans, start: usize) -> usize {
         }
     }
     low
-}
-
-// The first tokens of the definition before the one that a token belongs to, and of that one, by the ends of those that
-// were written.
-fn firsts_of(ends: &[usize], token: usize) -> (usize, usize) {
-    let (mut before, mut first) = (0, 0);
-    for end in ends {
-        if *end <= token {
-            (before, first) = (first, *end);
-        }
-    }
-    (before, first)
 }

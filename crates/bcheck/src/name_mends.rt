@@ -1,10 +1,9 @@
 //! Edits for names that mean nothing where they are, and for operands without an address.
 use crate::around::opener_of;
 use crate::declared_mends::local;
-use crate::draft::{Draft, Drafted};
+use crate::draft::{Draft, Drafted, Stop};
 use crate::kinds::Like::{self, Is};
 use crate::kinds::{is_comparison, is_word};
-use crate::mends::token_at;
 use crate::near::near_name;
 use crate::syntax_mends::{after_brackets, opener_before, statement_of, word_here};
 use crate::undefined::UndefinedName;
@@ -16,14 +15,8 @@ use bword::Name;
 
 /// What may mend a definition of a name that a prototype has, which is the second place.
 pub(crate) fn prototype(draft: &mut Draft<'_>) -> Drafted {
-    let Some(place) = draft.finding.related else {
-        return Ok(());
-    };
-    let first = token_at(draft.spans, place.start);
-    match draft.on_line(first, Lexeme::Semicolon) {
-        Some(last) => draft.remove(first, last),
-        None => Ok(()),
-    }
+    let first = draft.second()?;
+    draft.remove(first, draft.on_line(first, Lexeme::Semicolon)?)
 }
 
 /// What may mend an operand without an address.
@@ -38,10 +31,7 @@ pub(crate) fn of_lvalue(draft: &mut Draft<'_>, lvalue: Lvalue) -> Drafted {
         (Lvalue::External, Some(name)) => declare(draft, Keyword::Extrn, &name),
         (Lvalue::Label, Some(name)) => declare_either(draft, &name),
         (Lvalue::Near, Some(name)) => near_or_declared(draft, &name),
-        (Lvalue::Typed, _) => match draft.finding.related {
-            Some(place) => local(draft, token_at(draft.spans, place.start)),
-            None => Ok(()),
-        },
+        (Lvalue::Typed, _) => local(draft, draft.second()?),
         _ => Ok(()),
     }
 }
@@ -49,9 +39,7 @@ pub(crate) fn of_lvalue(draft: &mut Draft<'_>, lvalue: Lvalue) -> Drafted {
 /// What may mend a name of a function that is neither declared nor a label.
 pub(crate) fn of_unknown(draft: &mut Draft<'_>, unknown: Unknown) -> Drafted {
     let token = draft.site.token;
-    let Some(name) = draft.finding.name else {
-        return Ok(());
-    };
+    let name = draft.name()?;
     match unknown {
         Unknown::External => declare(draft, Keyword::Extrn, &name),
         Unknown::Function | Unknown::Library => {
@@ -148,25 +136,22 @@ fn assigns_comparison(lexeme: &Lexeme) -> bool {
 
 // A word of a vector in the place of a call of it before an assignment, or a comparison in the place of that.
 fn call_assigned(draft: &mut Draft<'_>, token: usize) -> Drafted {
-    let Some(opener) = opener_of(draft.spans, token.wrapping_sub(1)) else {
-        return Ok(());
-    };
-    if let Lexeme::Name(name) = draft.at(opener.wrapping_sub(1)) {
-        if let Some(declared) = declared_at(draft, &name) {
-            if draft.is(declared.wrapping_add(1), &Like::Number) {
-                return draft.by_rows(opener, &[BRACKETED]);
-            }
+    let opener = opener_of(draft.spans, token.wrapping_sub(1)).ok_or(Stop::Unfit)?;
+    match draft
+        .name_at(opener.wrapping_sub(1))
+        .and_then(|name| declared_at(draft, &name))
+    {
+        Ok(declared) if draft.is(declared.wrapping_add(1), &Like::Number) => {
+            draft.by_rows(opener, &[BRACKETED])
         }
+        _ => compares(draft, token),
     }
-    compares(draft, token)
 }
 
 // A call of `lchar` in the place of an assignment to a call of `char`, whose `=` this token is. Where its value is used
 // a comparison is as likely.
 fn stored(draft: &mut Draft<'_>, token: usize) -> Drafted {
-    let Some(end) = draft.on_line(token, Lexeme::Semicolon) else {
-        return Ok(());
-    };
+    let end = draft.on_line(token, Lexeme::Semicolon)?;
     if let Some(opener) = opener_before(draft, token) {
         let head = draft.at(opener.wrapping_sub(1));
         draft.is_choice = !matches!(head, Lexeme::Keyword(Keyword::If | Keyword::While));
@@ -270,12 +255,10 @@ fn after_declaration(draft: &mut Draft<'_>, name: &Name) -> Drafted {
 
 /// A declaration of a name at the beginning of a function: in the one of its kind that is there, or before all else.
 pub(crate) fn declare(draft: &mut Draft<'_>, keyword: Keyword, name: &Name) -> Drafted {
-    let Some(brace) = body_of(draft) else {
-        return Ok(());
-    };
+    let brace = body_of(draft).ok_or(Stop::Unfit)?;
     let first = brace.saturating_add(1);
     if draft.at(first) == Lexeme::Keyword(keyword) {
-        if let Some(end) = draft.on_line(first, Lexeme::Semicolon) {
+        if let Ok(end) = draft.on_line(first, Lexeme::Semicolon) {
             let place = draft.start(end);
             return draft.fill(place, place, ", %0", &[name.as_bytes()]);
         }
@@ -299,8 +282,8 @@ pub(crate) fn body_of(draft: &Draft<'_>) -> Option<usize> {
 }
 
 /// Where a name stands in an `auto` of the function, before the token.
-pub(crate) fn declared_at(draft: &Draft<'_>, name: &Name) -> Option<usize> {
-    declared_by(draft, name, false)
+pub(crate) fn declared_at(draft: &Draft<'_>, name: &Name) -> Result<usize, Stop> {
+    declared_by(draft, name, false).ok_or(Stop::Unfit)
 }
 
 // The same, of an `extrn`, too, where any will do.

@@ -1,9 +1,8 @@
 //! Edits for numbers, for comparisons and for loops that are probably mistakes.
 use crate::draft::Spot::{After, Before, For};
-use crate::draft::{Draft, Drafted, Row};
+use crate::draft::{Draft, Drafted, Row, Stop, only_if};
 use crate::kinds::Like::{self, Either, Group, Is, Op, Value};
 use crate::kinds::{ANY, CLOSE_PAREN, closes_bracket, is_comparison, is_operand, opens_bracket};
-use crate::mends::token_at;
 use crate::slip_mends::of_slip;
 use crate::syntax_mends::{after_brackets, opener_before};
 use blex::Lexeme;
@@ -80,10 +79,9 @@ pub(crate) fn of_numbers(draft: &mut Draft<'_>, warning: Warning) -> Drafted {
 // A number without the 0s before it.
 fn decimal(draft: &mut Draft<'_>, token: usize) -> Drafted {
     let bytes = draft.bytes(token, token);
-    match bytes.iter().position(|byte| *byte != b'0') {
-        Some(index) => draft.rename(token, bytes.get(index..).unwrap_or(&[])),
-        None => Ok(()),
-    }
+    let digit = bytes.iter().position(|byte| *byte != b'0');
+    let rest = bytes.get(digit.ok_or(Stop::Unfit)?..);
+    draft.rename(token, rest.unwrap_or(&[]))
 }
 
 /// The token after an operand that begins with this one.
@@ -132,9 +130,7 @@ fn all_signs(draft: &mut Draft<'_>, token: usize, op: BinOp, words: &[u8]) -> Dr
         && opens_bracket(&draft.at(begin.wrapping_sub(1)))
         && closes_bracket(&draft.at(end.wrapping_add(1)))
         && draft.at(begin) == draft.at(last.wrapping_add(1));
-    if !is_whole {
-        return Ok(());
-    }
+    only_if(is_whole)?;
     let mut text = draft.text();
     let mut from = draft.start(begin);
     for at in begin..end {
@@ -158,19 +154,12 @@ fn is_comparing(draft: &Draft<'_>, name: usize) -> bool {
 // `<` in the place of `<=` in the condition of a loop, which is the second place and begins with the first word, or
 // after it where that is taken by itself.
 fn below(draft: &mut Draft<'_>) -> Drafted {
-    let Some(place) = draft.finding.related else {
-        return Ok(());
-    };
-    let keyword = token_at(draft.spans, place.start);
+    let keyword = draft.second()?;
     let (name, sign) = (keyword.wrapping_add(2), keyword.wrapping_add(3));
-    match value_before(draft, keyword, draft.at(name)) {
-        Some(value)
-            if draft.is(sign, &Op(BinOp::Le))
-                && (draft.at(value) == Lexeme::Number(0) || has_first(draft, value)) => {
-            draft.rename(sign, b"<")
-        }
-        _ => Ok(()),
-    }
+    let value = value_before(draft, keyword, draft.at(name))?;
+    only_if(draft.is(sign, &Op(BinOp::Le)))?;
+    only_if(draft.at(value) == Lexeme::Number(0) || has_first(draft, value))?;
+    draft.rename(sign, b"<")
 }
 
 // Whether the first word of a vector is taken by itself shortly before a token.
@@ -184,38 +173,30 @@ fn has_first(draft: &Draft<'_>, token: usize) -> bool {
 }
 
 // The constant that is assigned to a name last before a token.
-fn value_before(draft: &Draft<'_>, token: usize, name: Lexeme) -> Option<usize> {
-    for back in 1..token {
-        let at = token.saturating_sub(back);
-        let value = at.saturating_add(2);
-        if draft.at(at) == name && draft.at(at.saturating_add(1)) == Lexeme::Assign(None) {
-            let is_constant = draft.is(value, &Like::Constant)
-                && draft.at(value.saturating_add(1)) == Semicolon;
-            return if is_constant { Some(value) } else { None };
-        }
-    }
-    None
+fn value_before(draft: &Draft<'_>, token: usize, name: Lexeme) -> Result<usize, Stop> {
+    let last = (1..token).rev().find(|at| {
+        draft.at(*at) == name && draft.at(at.saturating_add(1)) == Lexeme::Assign(None)
+    });
+    let value = last.ok_or(Stop::Unfit)?.saturating_add(2);
+    only_if(draft.is(value, &Like::Constant))?;
+    only_if(draft.at(value.saturating_add(1)) == Semicolon)?;
+    Ok(value)
 }
 
 /// What the name of a condition began with, once more right before the loop with this keyword.
 pub(crate) fn set_before(draft: &mut Draft<'_>, keyword: usize) -> Drafted {
     let name = keyword.wrapping_add(2);
     let start = draft.start(keyword);
-    match value_before(draft, keyword, draft.at(name)) {
-        Some(value) if draft.is(keyword.wrapping_sub(1), &Like::Border) => {
-            let parts = [draft.bytes(name, name), draft.bytes(value, value)];
-            draft.fill(start, start, "%0 = %1; ", &parts)
-        }
-        _ => Ok(()),
-    }
+    let value = value_before(draft, keyword, draft.at(name))?;
+    only_if(draft.is(keyword.wrapping_sub(1), &Like::Border))?;
+    let parts = [draft.bytes(name, name), draft.bytes(value, value)];
+    draft.fill(start, start, "%0 = %1; ", &parts)
 }
 
 // A character constant with a star in the place of its slash.
 fn star(draft: &mut Draft<'_>, token: usize) -> Drafted {
     let slash = draft.start(token).saturating_add(1);
-    if draft.source.get(slash) != Some(&b'/') {
-        return Ok(());
-    }
+    only_if(draft.source.get(slash) == Some(&b'/'))?;
     draft.put(slash, slash.saturating_add(1), b"*")
 }
 

@@ -1,7 +1,6 @@
 //! Fixes that are put together of what stands in the source.
 use crate::advice::Matter;
 use crate::byte_mends::newline_end;
-use crate::draft::Drafted;
 use crate::finding::{Finding, Place, SecondPlace};
 use crate::kinds::is_type_name;
 use crate::syntax::Syntax;
@@ -9,6 +8,9 @@ use blint::Warning;
 use btools::Text;
 use bword::Name;
 use std::alloc::{AllocError, Global};
+
+/// Nothing, or that memory ran out.
+pub(crate) type Pushed = Result<(), AllocError>;
 
 /// Words, in which `%` and a digit stand for one of the parts after them.
 #[derive(Clone, Copy)]
@@ -47,7 +49,7 @@ pub(crate) fn own_fix(
 }
 
 /// Adds words, in which `%` and a digit stand for a part, and `%*` for the whole.
-pub(crate) fn push_filled(text: &mut Text, words: &str, parts: &[&[u8]], whole: &[u8]) -> Drafted {
+pub(crate) fn push_filled(text: &mut Text, words: &str, parts: &[&[u8]], whole: &[u8]) -> Pushed {
     let mut is_part = false;
     for byte in words.as_bytes() {
         if is_part {
@@ -69,7 +71,7 @@ fn comment_end(source: &[u8], start: usize) -> Option<Fix<'_>> {
 
 // What a product begins with, where a name of so many bytes is multiplied.
 fn product(rest: &[u8], len: usize) -> Option<Fix<'_>> {
-    let next = rest.get(len..).unwrap_or(&[]).trim_ascii();
+    let next = rest.get(len..).unwrap_or(&[]).trim_ascii_start();
     if next.get(0) != Some(&b'*') && next.get(..2) != Some(b"=*") {
         return None;
     }
@@ -203,14 +205,6 @@ fn after(bytes: &[u8], place: usize) -> &[u8] {
         .trim_ascii()
 }
 
-// A loop of the three parts of the header of a `for`.
-fn loop_of_header(alloc: Global, rest: &[u8]) -> Result<Option<Text>, AllocError> {
-    match parts_of_header(rest) {
-        Some((begin, condition, step)) => looped(alloc, begin, condition, step),
-        None => Ok(None),
-    }
-}
-
 fn parts_of_header(rest: &[u8]) -> Option<(&[u8], &[u8], &[u8])> {
     let header = in_parentheses(rest)?;
     let is_plain = place_of(header, b';').is_some();
@@ -223,13 +217,12 @@ fn parts_of_header(rest: &[u8]) -> Option<(&[u8], &[u8], &[u8])> {
     Some((begin, condition, step))
 }
 
-// A loop that begins with a statement, goes on as long as a condition holds, and ends each turn with a step.
-fn looped(
-    alloc: Global,
-    begin: &[u8],
-    condition: &[u8],
-    step: &[u8],
-) -> Result<Option<Text>, AllocError> {
+// A loop of the three parts of the header of a `for`: it begins with a statement, goes on as long as a condition holds,
+// and ends each turn with a step.
+fn loop_of_header(alloc: Global, rest: &[u8]) -> Result<Option<Text>, AllocError> {
+    let Some((begin, condition, step)) = parts_of_header(rest) else {
+        return Ok(None);
+    };
     let mut text = Text::new(alloc);
     if !begin.is_empty() {
         push_statements(&mut text, begin)?;
@@ -251,7 +244,7 @@ fn looped(
 }
 
 // Statements that stand with commas between them, with the `=` of an assignment before its operator.
-fn push_statements(text: &mut Text, statements: &[u8]) -> Drafted {
+fn push_statements(text: &mut Text, statements: &[u8]) -> Pushed {
     let mut rest = statements;
     for _ in 0..statements.len() {
         let Some(comma) = place_of(rest, b',') else {
@@ -264,7 +257,7 @@ fn push_statements(text: &mut Text, statements: &[u8]) -> Drafted {
     Ok(())
 }
 
-fn push_statement(text: &mut Text, statement: &[u8]) -> Drafted {
+fn push_statement(text: &mut Text, statement: &[u8]) -> Pushed {
     let mut is_turned = false;
     for index in 0..statement.len() {
         let byte = statement.get(index).copied().unwrap_or(b' ');

@@ -1,12 +1,12 @@
 //! A `;` that is all that lacks.
 use crate::advice::Matter;
 use crate::brace_mends::{is_heading, may_define};
-use crate::draft::Draft;
+use crate::draft::{Draft, Drafted, only_if};
 use crate::edit::Proposal;
 use crate::finding::Finding;
 use crate::kinds::{Like, is_operand};
 use crate::mending::Bench;
-use crate::mends::site_of;
+use crate::mends::{draft_of, is_tried};
 use crate::spans::{Spans, is_joined};
 use crate::syntax::Syntax;
 use crate::syntax_mends::does_before;
@@ -21,27 +21,30 @@ pub(crate) fn semicolons(
     tokens: &Spans,
     finding: &Finding,
 ) -> Result<Vec<Proposal>, AllocError> {
-    let site = site_of(bench, tokens, finding);
-    let mut draft = Draft::new(alloc, bench.source.text, tokens, finding, site);
-    let Matter::Syntax(syntax) = finding.matter else {
-        return Ok(draft.all);
+    let mut draft = draft_of(alloc, bench, tokens, finding);
+    let drafted = of_fault(&mut draft, bench);
+    draft.proposals(drafted)
+}
+
+fn of_fault(draft: &mut Draft<'_>, bench: &Bench<'_>) -> Drafted {
+    let Matter::Syntax(syntax) = draft.finding.matter else {
+        return Ok(());
     };
-    if bench.tries() == 0 || bench.files.beyond_first(finding.place.line).is_some() {
-        return Ok(draft.all);
-    }
+    only_if(is_tried(bench, draft.finding))?;
     let seen = bench.judgement.compiled.end;
-    let first = first_on_line(&draft, seen);
-    if is_heading(&draft, seen) || may_define(&draft, seen) {
-        return Ok(draft.all);
-    }
+    let last = (0..seen).rfind(|at| draft.line(*at) != draft.line(seen));
+    let first = last.map_or(0, |at| at.saturating_add(1));
+    only_if(!is_heading(draft, seen) && !may_define(draft, seen))?;
     draft.is_sure = true;
-    if first > 0 && may_lack_before(&draft, syntax, first, finding) {
+    // What is found before it, and what a keyword is meant to begin, lacks none.
+    let is_keyword = matches!(syntax, Syntax::CallBody | Syntax::ElseCondition);
+    if first > 0 && !is_keyword && draft.finding.place.start >= draft.end(first.wrapping_sub(1)) {
         draft.after(first - 1, b";")?;
     }
-    if seen > first && may_lack_here(&draft, syntax, seen) {
+    if seen > first && may_lack_here(draft, syntax, seen) {
         draft.after(seen - 1, b";")?;
     }
-    Ok(draft.all)
+    Ok(())
 }
 
 /// Whether what is found is an assignment to more than a name, which may begin on the line after a `;` that lacks.
@@ -49,21 +52,7 @@ pub(crate) fn is_of_assignment(finding: &Finding) -> bool {
     matches!(finding.matter, Matter::Syntax(Syntax::AssignLeft))
 }
 
-// The first token on the line of a token.
-fn first_on_line(draft: &Draft<'_>, token: usize) -> usize {
-    let line = draft.line(token);
-    let last = (0..token).rfind(|at| draft.line(*at) != line);
-    last.map_or(0, |at| at.saturating_add(1))
-}
-
-// Whether a `;` may lack before the first token of a line. If what is found stands before it, or if it is meant to go
-// on with what a keyword begins, none does.
-fn may_lack_before(draft: &Draft<'_>, syntax: Syntax, first: usize, finding: &Finding) -> bool {
-    let is_keyword = matches!(syntax, Syntax::CallBody | Syntax::ElseCondition);
-    !is_keyword && finding.place.start >= draft.end(first.wrapping_sub(1))
-}
-
-// Whether it may lack right before this token. Where the token may go on with the value of a `return`, seems to be of
+// Whether a `;` may lack right before this token. Where the token may go on with the value of a `return`, seems to be of
 // one word with a number before it, or stands twice, it doesn't.
 fn may_lack_here(draft: &Draft<'_>, syntax: Syntax, token: usize) -> bool {
     let before = token.wrapping_sub(1);

@@ -1,6 +1,6 @@
 //! Edits for slips of order, of kinds of values and of turns of a loop, and for assignments that are turned round.
 use crate::draft::Spot::For;
-use crate::draft::{Draft, Drafted, Row};
+use crate::draft::{Draft, Drafted, Row, only_if};
 use crate::kinds::ANY;
 use crate::kinds::Like::{self, Group, Is, Op, Until, Value};
 use crate::name_mends::declared_at;
@@ -99,9 +99,7 @@ pub(crate) fn assigned_left(draft: &mut Draft<'_>, token: usize) -> Drafted {
         draft.at(first),
         Lexeme::Name(_) | Lexeme::Number(_) | Lexeme::OpenParen
     );
-    if !is_target || !begins || first >= token {
-        return Ok(());
-    }
+    only_if(is_target && begins && first < token)?;
     let sides = [
         draft.bytes(target, last),
         draft.bytes(first, token.wrapping_sub(1)),
@@ -116,21 +114,17 @@ fn divisor_added(draft: &mut Draft<'_>, token: usize) -> Drafted {
     let divisor = token.wrapping_add(1);
     let is_one = matches!(draft.at(divisor), Lexeme::Name(_) | Lexeme::Number(_))
         && after_operand(draft, divisor) == divisor.wrapping_add(1);
-    if draft.at(closer) != Lexeme::CloseParen || !is_one {
-        return Ok(());
-    }
+    only_if(draft.at(closer) == Lexeme::CloseParen && is_one)?;
     let place = draft.start(closer);
     draft.fill(place, place, " + %0", &[draft.bytes(divisor, divisor)])
 }
 
 // A vector with room for so many characters and their end. The token is the number of these.
 fn enlarged(draft: &mut Draft<'_>, token: usize) -> Drafted {
-    let (Some(name), Lexeme::Number(characters)) = (draft.finding.name, draft.at(token)) else {
-        return Ok(());
-    };
-    match declared_at(draft, &name) {
-        Some(declared) if draft.is(declared.wrapping_add(1), &Like::Number) => {
-            let last = declared.wrapping_add(1);
+    let name = draft.name()?;
+    let last = declared_at(draft, &name)?.wrapping_add(1);
+    match (draft.at(last), draft.at(token)) {
+        (Lexeme::Number(_), Lexeme::Number(characters)) => {
             draft.number(last, last, u64::from(characters / 2))
         }
         _ => Ok(()),

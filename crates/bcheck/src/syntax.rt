@@ -10,6 +10,7 @@ use crate::kinds::Like::{
 };
 use crate::kinds::{
     ANY, CLOSE_PAREN, COMMA, Like, OPEN_PAREN, STRING, closes_bracket, is_ended, is_operand,
+    is_word,
 };
 use crate::spans::{Spans, is_joined, is_next_line, lexeme_at, place_of};
 use crate::syntax::Marking::{Before, First, Head, Here};
@@ -284,7 +285,8 @@ const CASE: Like = Like::Is(Lexeme::Keyword(Keyword::Case));
 
 const IF: Like = Like::Is(Lexeme::Keyword(Keyword::If));
 
-const IF_WHILE: Like = Like::Either(
+/// The keywords after which a condition is in parentheses.
+pub(crate) const IF_WHILE: Like = Like::Either(
     Lexeme::Keyword(Keyword::If),
     Lexeme::Keyword(Keyword::While),
 );
@@ -502,16 +504,9 @@ fn window(spans: &Spans, around: &Around) -> [Lexeme; 5] {
 }
 
 fn fits(row: &Mistake, tried: &Tried<'_>) -> bool {
-    is_part(row.0, tried.around.part)
+    row.0.is_none_or(|part| part == tried.around.part)
         && Like::fit(&row.2, &tried.tokens)
         && holds(row.1, tried.source, tried.spans, tried.around)
-}
-
-fn is_part(asked: Option<Region>, part: Region) -> bool {
-    match asked {
-        Some(asked) => asked == part,
-        None => true,
-    }
 }
 
 // Whether this is so of a token.
@@ -533,7 +528,8 @@ fn holds(condition: If, source: &[u8], spans: &Spans, around: &Around) -> bool {
         If::BraceOpen => around.is_in(spans, Lexeme::OpenBrace),
         If::IfBrace => around.is_in(spans, Lexeme::OpenBrace)
             && is_after(spans, around.head(), &IF),
-        If::For => around.is_call_of(spans, "for"),
+        If::For => around.is_in(spans, Lexeme::OpenParen)
+            && is_word(&lexeme_at(spans, around.head()), "for"),
         If::Prototype => is_prototype(spans, around.token),
         If::Else => is_after(spans, before, &ELSE),
         If::Tight => is_joined(spans, before) && is_joined(spans, around.token),
@@ -619,7 +615,8 @@ fn divides(spans: &Spans, token: usize) -> bool {
         if closes_bracket(&lexeme) || matches!(lexeme, Lexeme::Semicolon | Lexeme::Comma) {
             return is_after;
         }
-        let is_known = !Like::Name.fits(&lexeme) || is_named_between(spans, first, &lexeme);
+        let is_known = !Like::Name.fits(&lexeme)
+            || (spans.first..first).any(|at| lexeme_at(spans, at) == lexeme);
         let is_part = if is_operand(&lexeme) {
             !is_after && is_known
         } else {
@@ -636,18 +633,13 @@ fn divides(spans: &Spans, token: usize) -> bool {
     false
 }
 
-// Whether a token is the `)` of a parenthesis right after such a keyword.
-fn is_after(spans: &Spans, closer: usize, keyword: &Like) -> bool {
+/// Whether a token is the `)` of a parenthesis right after such a keyword.
+pub(crate) fn is_after(spans: &Spans, closer: usize, keyword: &Like) -> bool {
     lexeme_at(spans, closer) == Lexeme::CloseParen
         && matches!(
             opener_of(spans, closer),
             Some(opener) if keyword.fits(&lexeme_at(spans, opener.wrapping_sub(1)))
         )
-}
-
-// Whether a token stands before another one, too.
-fn is_named_between(spans: &Spans, end: usize, lexeme: &Lexeme) -> bool {
-    (spans.first..end).any(|at| lexeme_at(spans, at) == *lexeme)
 }
 
 // Whether a `;` comes right after the first `)` after a token.

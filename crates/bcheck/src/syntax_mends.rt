@@ -4,12 +4,11 @@ use crate::brace_mends::{brace_by_lines, indent_of, is_heading, is_outdented, ma
 use crate::byte_mends::{items_in, line_end, remark};
 use crate::declared_mends::{definition, head, local, names_alone, push_each};
 use crate::draft::Spot::{Before, For, Past};
-use crate::draft::{Draft, Drafted, Row};
+use crate::draft::{Draft, Drafted, Row, Stop, only_if};
 use crate::foreign::Foreign;
 use crate::kinds::Like::{self, Either, Is, Op, Until};
 use crate::kinds::{ANY, depth_after, is_comparison, is_ended, is_word};
 use crate::logic_mends::{Logic, mend_logic};
-use crate::mends::token_at;
 use crate::name_mends::body_of;
 use crate::near::near_keyword;
 use crate::own_parts::body_end;
@@ -22,7 +21,6 @@ use blex::Lexeme;
 use blex::Lexeme::{Assign, Colon, OpenBrace, OpenBracket, Operator, Semicolon};
 use bword::BinOp::{Eq, Ge, Gt, Le, Lt, Ne};
 use bword::Name;
-use std::alloc::AllocError;
 
 /// How many tokens before a `]` are looked at for its `[`.
 const MOST_INDEX: usize = 8;
@@ -71,8 +69,11 @@ const BEFORE_COLON: Row = Row(1, [ANY, Until(Colon), ANY, ANY, ANY], Past(0, 2),
 /// What may mend a token with which no program goes on.
 pub(crate) fn of_syntax(draft: &mut Draft<'_>, syntax: Syntax) -> Drafted {
     draft.is_guess = is_guess(syntax);
+    if let Syntax::Foreign(word) = syntax {
+        // The word is the second place where it stands on another line.
+        return foreign(draft, draft.second().unwrap_or(draft.site.token), word);
+    }
     of_braces(draft, syntax)?;
-    of_words(draft, syntax)?;
     of_definition(draft, syntax)?;
     of_statement(draft, syntax)?;
     of_expression(draft, syntax)
@@ -94,15 +95,16 @@ fn is_guess(syntax: Syntax) -> bool {
 // What stands outside of functions, and in the heads of functions.
 fn of_definition(draft: &mut Draft<'_>, syntax: Syntax) -> Drafted {
     let (token, first) = (draft.site.token, draft.site.first);
-    if is_outside(syntax) && (brace_by_lines(draft)? || indent_of(draft, first) > 0) {
-        return Ok(());
-    }
+    only_if(!is_outside(syntax) || !brace_by_lines(draft)? && indent_of(draft, first) == 0)?;
     let before = token.wrapping_sub(1);
     match syntax {
         Syntax::Slashes => remark(draft, draft.start(token), 2),
         Syntax::BraceSemicolon | Syntax::BraceCloses => draft.remove(token, token),
         Syntax::TypeFirst | Syntax::TypeParameter => {
-            head(draft, first)?;
+            let drafted = head(draft, first);
+            if let Err(Stop::Memory) = drafted {
+                return drafted;
+            }
             definition(draft, first)
         }
         Syntax::VectorParameter => head(draft, first),
@@ -112,7 +114,7 @@ fn of_definition(draft: &mut Draft<'_>, syntax: Syntax) -> Drafted {
             draft, first,
         ),
         Syntax::Prototype => prototype_out(draft),
-        Syntax::NameMissing if draft.at(token) == OpenBrace => draft.take_out(before, before),
+        Syntax::NameMissing if draft.at(token) == OpenBrace => draft.replace(before, before, b""),
         _ => Ok(()),
     }
 }
@@ -136,9 +138,7 @@ fn is_outside(syntax: Syntax) -> bool {
 // A prototype taken out, from its name on where a type of its parameters was found fault with.
 fn prototype_out(draft: &mut Draft<'_>) -> Drafted {
     let (token, first) = (draft.site.token, draft.site.first);
-    let Some(last) = draft.on_line(token, Semicolon) else {
-        return Ok(());
-    };
+    let last = draft.on_line(token, Semicolon)?;
     let opener = first.saturating_add(1);
     let is_whole = draft.at(opener) == Lexeme::OpenParen
         && after_brackets(draft, opener) == last
@@ -146,7 +146,8 @@ fn prototype_out(draft: &mut Draft<'_>) -> Drafted {
     draft.remove(if is_whole { first } else { token }, last)
 }
 
-// A brace that is missing, where it is that of the function before, or the one before an `else`.
+// A brace that is missing, where it is that of the function before, or the one before an `else`; or after the last line
+// that stands farther in than the open one.
 fn of_braces(draft: &mut Draft<'_>, syntax: Syntax) -> Drafted {
     let is_whole = match (draft.finding.related, body_of(draft)) {
         (Some(open), Some(brace)) => open.start == draft.start(brace),
@@ -155,32 +156,13 @@ fn of_braces(draft: &mut Draft<'_>, syntax: Syntax) -> Drafted {
     match syntax {
         Syntax::FunctionInside if is_whole => draft.before(draft.site.token, b"} "),
         Syntax::ElseInBraces => draft.before(draft.site.token, b"} "),
-        Syntax::BraceOpen | Syntax::FunctionInside => brace_after(draft),
+        Syntax::BraceOpen | Syntax::FunctionInside => {
+            let brace = draft.finding.related.ok_or(Stop::Unfit)?;
+            let (_, end) = body_end(draft.source, brace.start).ok_or(Stop::Unfit)?;
+            draft.put(end, end, b" }")
+        }
         _ => Ok(()),
     }
-}
-
-// A closing brace after the last line that stands farther in than the open one.
-fn brace_after(draft: &mut Draft<'_>) -> Drafted {
-    let Some(brace) = draft.finding.related else {
-        return Ok(());
-    };
-    match body_end(draft.source, brace.start) {
-        Some((_, end)) => draft.put(end, end, b" }"),
-        None => Ok(()),
-    }
-}
-
-// A word of another language, which is the second place where it stands on another line.
-fn of_words(draft: &mut Draft<'_>, syntax: Syntax) -> Drafted {
-    let Syntax::Foreign(word) = syntax else {
-        return Ok(());
-    };
-    let token = match draft.finding.related {
-        Some(place) => token_at(draft.spans, place.start),
-        None => draft.site.token,
-    };
-    foreign(draft, token, word)
 }
 
 // What begins and ends statements, and what stands between them.
@@ -208,7 +190,10 @@ fn of_statement(draft: &mut Draft<'_>, syntax: Syntax) -> Drafted {
         Syntax::Then if is_word(&draft.at(token), "then") => draft.remove(token, token),
         Syntax::Then => draft.put(draft.end(before.wrapping_sub(1)), draft.end(before), b""),
         Syntax::CaseSign => case_sign(draft, token),
-        Syntax::CaseString => case_value(draft, token),
+        Syntax::CaseString
+            if draft.at(token) == Lexeme::String && draft.bytes(token, token).len() <= 4 => {
+            quoted(draft, token, "'%0'")
+        }
         Syntax::CaseList => cases(draft, token),
         Syntax::CaseColon if draft.at(token) == Semicolon => draft.rename(token, b":"),
         Syntax::CaseColon => draft.after(before, b":"),
@@ -226,8 +211,11 @@ fn of_statement(draft: &mut Draft<'_>, syntax: Syntax) -> Drafted {
         Syntax::HeadColon | Syntax::DoAfter => draft.remove(token, token),
         Syntax::CallBody => call_body(draft, token),
         Syntax::CommaAlone if is_between_statements(draft, token) => draft.rename(token, b";"),
-        Syntax::Thousands | Syntax::ParenEarly => draft.take_out(token, token),
-        Syntax::ElseCondition => else_if(draft, before),
+        Syntax::Thousands | Syntax::ParenEarly => draft.replace(token, token, b""),
+        Syntax::ElseCondition => {
+            let opener = opener_of(draft.spans, before).ok_or(Stop::Unfit)?;
+            draft.after(opener.wrapping_sub(1), b" if")
+        }
         Syntax::ListAssigned => one_by_one(draft, token),
         _ => Ok(()),
     }
@@ -279,15 +267,11 @@ fn of_expression(draft: &mut Draft<'_>, syntax: Syntax) -> Drafted {
 // the comma is a choice.
 fn argument_apart(draft: &mut Draft<'_>, opener: usize, token: usize) -> Drafted {
     let before = token.wrapping_sub(1);
-    let Lexeme::Name(name) = draft.at(opener.wrapping_sub(1)) else {
-        return Ok(());
-    };
+    let name = draft.name_at(opener.wrapping_sub(1))?;
     let count = arguments_between(draft, opener);
     let asked = arguments_of(draft, opener, &name);
     let has_string = draft.at(before) == Lexeme::String || draft.at(token) == Lexeme::String;
-    if draft.at(opener) != Lexeme::OpenParen || asked.unwrap_or(u64::MAX) <= count {
-        return Ok(());
-    }
+    only_if(draft.at(opener) == Lexeme::OpenParen && asked.unwrap_or(u64::MAX) > count)?;
     draft.is_choice = !has_string && asked != Some(count.saturating_add(1));
     draft.after(before, b",")
 }
@@ -304,7 +288,7 @@ fn arguments_of(draft: &Draft<'_>, opener: usize, name: &Name) -> Option<u64> {
 
 // A `[` in the name before a `]` on its line that is two words which stand elsewhere, or one and a number. Where there
 // are several such places it is a choice. Whether there is one.
-fn index_opened(draft: &mut Draft<'_>, closer: usize) -> Result<bool, AllocError> {
+fn index_opened(draft: &mut Draft<'_>, closer: usize) -> Result<bool, Stop> {
     let count = if draft.at(closer) == Lexeme::CloseBracket {
         MOST_INDEX
     } else {
@@ -422,9 +406,7 @@ pub(crate) fn statement_of(draft: &Draft<'_>, token: usize) -> usize {
 // between, and what is open is no heading and no statement, it is a choice. Before a `?` after that its place can't be
 // seen, nor right before the token, if an operator stands in the parentheses that end there, but for a heading's.
 fn closing(draft: &mut Draft<'_>, token: usize) -> Drafted {
-    let Some(opener) = opener_before(draft, token) else {
-        return Ok(());
-    };
+    let opener = opener_before(draft, token).ok_or(Stop::Unfit)?;
     let is_index = draft.at(opener) == Lexeme::OpenBracket;
     let closer: &[u8] = if is_index { b"]" } else { b")" };
     let (mut is_assigned, mut is_joined) = (false, false);
@@ -502,9 +484,7 @@ fn case_sign(draft: &mut Draft<'_>, token: usize) -> Drafted {
 
 // A case for each value up to the colon, from the first comma on.
 fn cases(draft: &mut Draft<'_>, token: usize) -> Drafted {
-    let Some(colon) = draft.on_line(token, Lexeme::Colon) else {
-        return Ok(());
-    };
+    let colon = draft.on_line(token, Lexeme::Colon)?;
     let mut text = draft.text();
     for at in token..colon {
         if draft.at(at) == Lexeme::Comma {
@@ -517,20 +497,10 @@ fn cases(draft: &mut Draft<'_>, token: usize) -> Drafted {
     draft.put_text(start, draft.start(colon), text)
 }
 
-// A character in the place of a string of one or two.
-fn case_value(draft: &mut Draft<'_>, token: usize) -> Drafted {
-    if draft.at(token) != Lexeme::String || draft.bytes(token, token).len() > 4 {
-        return Ok(());
-    }
-    quoted(draft, token, "'%0'")
-}
-
 // A `;` right after the condition of an `if`, before the one statement that comes before an `else`; or one that ends an
 // `if` before that.
 fn else_alone(draft: &mut Draft<'_>, before: usize) -> Drafted {
-    if draft.at(before) != Lexeme::Semicolon {
-        return Ok(());
-    }
+    only_if(draft.at(before) == Lexeme::Semicolon)?;
     let early = statement_of(draft, before).wrapping_sub(1);
     if draft.at(early) == Lexeme::Semicolon
         && draft.at(early.wrapping_sub(1)) == Lexeme::CloseParen
@@ -543,50 +513,32 @@ fn else_alone(draft: &mut Draft<'_>, before: usize) -> Drafted {
 // An assignment for each value of a list between brackets or braces, which this token opens after `=`.
 fn one_by_one(draft: &mut Draft<'_>, opener: usize) -> Drafted {
     let name = opener.wrapping_sub(2);
-    let Some(end) = draft.on_line(name, Lexeme::Semicolon) else {
-        return Ok(());
-    };
+    let end = draft.on_line(name, Lexeme::Semicolon)?;
     let closer = end.wrapping_sub(1);
-    if !draft.is(name, &Like::Name) || after_brackets(draft, opener) != end || closer <= opener {
-        return Ok(());
-    }
+    only_if(draft.is(name, &Like::Name) && closer > opener)?;
+    only_if(after_brackets(draft, opener) == end)?;
     let mut text = draft.text();
     push_each(&mut text, draft, name, opener, closer)?;
     draft.put_text(draft.start(name), draft.end(end), text)
 }
 
-// An `if` after the `else` before a condition that ends with this token.
-fn else_if(draft: &mut Draft<'_>, closer: usize) -> Drafted {
-    match opener_of(draft.spans, closer) {
-        Some(opener) => draft.after(opener.wrapping_sub(1), b" if"),
-        None => Ok(()),
-    }
-}
-
 // Whether a statement begins with a name like a keyword.
 fn has_keyword(draft: &Draft<'_>, first: usize) -> bool {
-    match draft.at(first) {
-        Lexeme::Name(name) => near_keyword(&name).is_some(),
-        _ => false,
-    }
+    keyword_like(draft, first).is_ok()
+}
+
+fn keyword_like(draft: &Draft<'_>, first: usize) -> Result<Name, Stop> {
+    near_keyword(&draft.name_at(first)?).ok_or(Stop::Unfit)
 }
 
 // The keyword that the first name of a statement is like.
 fn keyword(draft: &mut Draft<'_>, first: usize) -> Drafted {
-    if let Lexeme::Name(name) = draft.at(first) {
-        if let Some(keyword) = near_keyword(&name) {
-            return draft.rename(first, keyword.as_bytes());
-        }
-    }
-    Ok(())
+    draft.rename(first, keyword_like(draft, first)?.as_bytes())
 }
 
 // A keyword that is spelt almost like what is called, or is called otherwise elsewhere.
 fn call_body(draft: &mut Draft<'_>, token: usize) -> Drafted {
-    let Lexeme::Name(name) = draft.at(token) else {
-        return Ok(());
-    };
-    match name.as_str() {
+    match draft.name_at(token)?.as_str() {
         "fi" | "iff" | "when" | "unless" => draft.rename(token, b"if"),
         "until" => draft.rename(token, b"while"),
         _ => keyword(draft, statement_of(draft, token)),
@@ -612,9 +564,7 @@ fn quotes(draft: &mut Draft<'_>, token: usize) -> Drafted {
 
 // A star before each quote around a token, up to the next string on its line.
 fn quotes_inside(draft: &mut Draft<'_>, token: usize) -> Drafted {
-    let Some(string) = draft.on_line(token, Lexeme::String) else {
-        return Ok(());
-    };
+    let string = draft.on_line(token, Lexeme::String)?;
     let start = draft.start(token).saturating_sub(1);
     let end = draft.start(string).saturating_add(1);
     draft.fill(
@@ -629,17 +579,12 @@ fn quotes_inside(draft: &mut Draft<'_>, token: usize) -> Drafted {
 // or a product with a name that stands before, too.
 fn number(draft: &mut Draft<'_>, token: usize) -> Drafted {
     let before = token.wrapping_sub(1);
-    let Lexeme::Name(name) = draft.at(token) else {
-        return Ok(());
-    };
+    let name = draft.name_at(token)?;
     match name.as_bytes() {
         [b'x' | b'X', digits @ ..] if draft.at(before) == Lexeme::Number(0) => {
-            match hexadecimal(digits) {
-                Some(number) => draft.number(before, token, number),
-                None => Ok(()),
-            }
+            draft.number(before, token, hexadecimal(digits).ok_or(Stop::Unfit)?)
         }
-        [b'L' | b'l' | b'u' | b'U'] => draft.take_out(token, token),
+        [b'L' | b'l' | b'u' | b'U'] => draft.replace(token, token, b""),
         _ if draft.has(0, token, &Is(Lexeme::Name(name))) => draft.after(before, b" * "),
         _ => Ok(()),
     }
@@ -677,10 +622,7 @@ fn foreign(draft: &mut Draft<'_>, token: usize, word: Foreign) -> Drafted {
 
 /// What stands for a word of another language, where it is one word.
 pub(crate) fn word_here(draft: &mut Draft<'_>, token: usize, word: Foreign) -> Drafted {
-    let Lexeme::Name(name) = draft.at(token) else {
-        return Ok(());
-    };
-    match (word, name.as_str()) {
+    match (word, draft.name_at(token)?.as_str()) {
         (Foreign::And, _) => mend_logic(draft, Logic::And, token, token),
         (Foreign::Or, _) => mend_logic(draft, Logic::Or, token, token),
         (Foreign::Not, _) => draft.rename(token, b"!"),

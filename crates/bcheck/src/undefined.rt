@@ -240,14 +240,8 @@ fn on_name(spans: &Spans, extent: Extent, definitions: &[Definition], name: Name
 
 // The last definition of a name like this one.
 fn near_definition(definitions: &[Definition], name: &Name) -> Option<Name> {
-    let mut found = None;
-    for definition in definitions {
-        let other = name_of(definition);
-        if is_near(name, &other) {
-            found = Some(other);
-        }
-    }
-    found
+    let names = definitions.iter().map(|definition| name_of(definition));
+    names.filter(|other| is_near(name, other)).last()
 }
 
 fn not_defined(
@@ -279,19 +273,9 @@ fn on_types(spans: &Spans, token: usize, name: Name) -> Finding
 
 // Of a name that a file of the folder `lib` defines, which file; of one that C has, the name that it has there, too.
 fn in_library(name: &Name) -> Option<(UndefinedName, Option<Name>)> {
-    for (word, file) in &IN_LIBRARY {
-        if name.as_str() == *word {
-            return Some((*file, None));
-        }
+    if let Some((_, file)) = IN_LIBRARY.iter().find(|row| name.as_str() == row.0) {
+        return Some((*file, None));
     }
-    in_c(name)
-}
-
-fn in_c(name: &Name) -> Option<(UndefinedName, Option<Name>)> {
-    for (word, here, file) in &IN_C {
-        if name.as_str() == *word {
-            return Some((*file, Name::new(here)));
-        }
-    }
-    None
+    let (_, here, file) = IN_C.iter().find(|row| name.as_str() == row.0)?;
+    Some((*file, Name::new(here)))
 }

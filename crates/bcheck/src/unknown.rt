@@ -163,15 +163,12 @@ fn is_for_character(spans: &Spans, token: usize, name: &Name) -> bool {
 
 // Whether a character is assigned to a name somewhere in these tokens.
 fn is_read(spans: &Spans, name: &Lexeme) -> bool {
-    for at in spans.first..spans.end() {
+    (spans.first..spans.end()).any(|at| {
         let value = lexeme_at(spans, at.wrapping_add(2));
-        let is_assigned = lexeme_at(spans, at) == *name
-            && lexeme_at(spans, at.wrapping_add(1)) == Lexeme::Assign(None);
-        if is_assigned && (is_word(&value, "getchar") || is_word(&value, "char")) {
-            return true;
-        }
-    }
-    false
+        lexeme_at(spans, at) == *name
+            && lexeme_at(spans, at.wrapping_add(1)) == Lexeme::Assign(None)
+            && (is_word(&value, "getchar") || is_word(&value, "char"))
+    })
 }
 
 // What a word is for where it is compared with a character: `NULL` is the end of a string or of the input.
@@ -320,15 +317,12 @@ fn at_operator(spans: &Spans, operator: usize, what: Lvalue) -> Finding
 
 // Where a name stands before a token after a type of C and a `*`.
 fn pointer_of(spans: &Spans, end: usize, name: &Name) -> Option<Place> {
-    for token in spans.first..end {
-        let is_pointer = Like::Type.fits(&lexeme_at(spans, token))
+    let found = (spans.first..end).find(|token| {
+        Like::Type.fits(&lexeme_at(spans, *token))
             && lexeme_at(spans, token.wrapping_add(1)) == Lexeme::Operator(BinOp::Mul)
-            && lexeme_at(spans, token.wrapping_add(2)) == Lexeme::Name(*name);
-        if is_pointer {
-            return Some(place_of(spans, token));
-        }
-    }
-    None
+            && lexeme_at(spans, token.wrapping_add(2)) == Lexeme::Name(*name)
+    });
+    Some(place_of(spans, found?))
 }
 
 // The name after a prefix operator, or the last token before another one.

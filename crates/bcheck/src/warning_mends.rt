@@ -1,13 +1,12 @@
 //! Edits for code that compiles and is probably a mistake.
 use crate::byte_mends::escapes;
 use crate::draft::Spot::{After, For, Past};
-use crate::draft::{Draft, Drafted, Row};
+use crate::draft::{Draft, Drafted, Row, Stop, only_if};
 use crate::kinds::Like::{self, Either, Group, Is, Op, Word};
 use crate::kinds::{
     ANY, CLOSE_PAREN, COMMA, OPEN_PAREN, depth_after, is_comparison, is_operand, is_word,
 };
 use crate::logic_mends::{Logic, mend_logic};
-use crate::mends::token_at;
 use crate::name_mends::{body_of, declared_at};
 use crate::near::library_arguments;
 use crate::number_mends::of_numbers;
@@ -95,7 +94,11 @@ fn of_operands(draft: &mut Draft<'_>, warning: Warning) -> Drafted {
     let token = draft.site.token;
     let begins = draft.is(token.wrapping_sub(1), &Like::Opening);
     match warning {
-        Warning::StringEnd | Warning::InputZero => end_for_zero(draft, token),
+        Warning::StringEnd | Warning::InputZero => {
+            let zero = Either(Number(0), Lexeme::Character(0));
+            let found = draft.find(token, token.saturating_add(4), &zero);
+            draft.rename(found.ok_or(Stop::Unfit)?, b"'*e'")
+        }
         Warning::InputEnd => end_for_minus_one(draft, token),
         Warning::StringForCharacter => quoted(draft, token, "'%0'"),
         Warning::Backslash => escapes(draft, token),
@@ -198,19 +201,8 @@ fn around_bits(draft: &mut Draft<'_>, token: usize) -> Drafted {
         }
     }
     let is_compared = is_comparison(&draft.at(after)) && is_operand(&draft.at(first));
-    if !is_compared || draft.is(token.wrapping_add(1), &Like::Name) {
-        return Ok(());
-    }
+    only_if(is_compared && !draft.is(token.wrapping_add(1), &Like::Name))?;
     draft.around(first, after.wrapping_sub(1), "(%*)")
-}
-
-// The end of a string or of the input, in the place of a 0.
-fn end_for_zero(draft: &mut Draft<'_>, token: usize) -> Drafted {
-    let zero = Either(Number(0), Lexeme::Character(0));
-    match draft.find(token, token.saturating_add(4), &zero) {
-        Some(at) => draft.rename(at, b"'*e'"),
-        None => Ok(()),
-    }
 }
 
 // The end of the input in the place of a -1 or a 0. Where the name that is compared holds something else, too, it is a
@@ -260,26 +252,18 @@ fn base_ten(draft: &mut Draft<'_>, token: usize) -> Drafted {
     let closer = after_brackets(draft, token.wrapping_add(1)).wrapping_sub(1);
     let is_base = draft.is(argument, &Either(Number(8), Number(10)))
         && argument.wrapping_add(1) == closer;
-    if is_base || !draft.is(token, &Word("printn")) {
-        return Ok(());
-    }
+    only_if(!is_base && draft.is(token, &Word("printn")))?;
     draft.before(closer, b", 10")
 }
 
 // A vector without an index past its end, as an argument of a function that isn't one of the library.
 fn whole_vector(draft: &mut Draft<'_>, index: usize) -> Drafted {
     let bracket = index.wrapping_sub(1);
-    let Some(opener) = opener_before(draft, bracket) else {
-        return Ok(());
-    };
-    let Lexeme::Name(name) = draft.at(opener.wrapping_sub(1)) else {
-        return Ok(());
-    };
+    let opener = opener_before(draft, bracket).ok_or(Stop::Unfit)?;
+    let name = draft.name_at(opener.wrapping_sub(1))?;
     let ends = draft.is(index.wrapping_add(2), &Either(Comma, CloseParen));
-    if !ends || library_arguments(&name).is_some() {
-        return Ok(());
-    }
-    draft.take_out(bracket, index.wrapping_add(1))
+    only_if(ends && library_arguments(&name).is_none())?;
+    draft.replace(bracket, index.wrapping_add(1), b"")
 }
 
 // A word that nothing has set: what a call sets takes its address, or words for a string; a sum begins with 0.
@@ -295,26 +279,15 @@ fn unset(draft: &mut Draft<'_>, token: usize) -> Drafted {
     }
     let is_within = draft.is(token.wrapping_add(1), &Is(OpenParen))
         || opener_before(draft, token).is_some();
-    let Some(name) = draft.finding.name else {
-        return Ok(());
-    };
-    if is_within || is_compared_alone(draft, &name) {
-        return Ok(());
-    }
+    let name = draft.name()?;
+    only_if(!is_within && !is_compared_alone(draft, &name))?;
     begun(draft, &name)
 }
 
 // A 0 for a word, or a 1 for a product, after the declarations in which it is.
 fn begun(draft: &mut Draft<'_>, name: &Name) -> Drafted {
-    let Some(declared) = declared_at(draft, name) else {
-        return Ok(());
-    };
-    let Some(end) = draft.on_line(declared, Semicolon) else {
-        return Ok(());
-    };
-    if draft.at(end.wrapping_add(1)) == Lexeme::Keyword(Keyword::Extrn) {
-        return Ok(());
-    }
+    let end = draft.on_line(declared_at(draft, name)?, Semicolon)?;
+    only_if(draft.at(end.wrapping_add(1)) != Lexeme::Keyword(Keyword::Extrn))?;
     let place = draft.end(end);
     let next = draft.site.token.wrapping_add(1);
     let product = Either(Lexeme::Operator(Mul), Lexeme::Assign(Some(Mul)));
@@ -337,21 +310,15 @@ fn is_compared_alone(draft: &Draft<'_>, name: &Name) -> bool {
 
 // A last index for a word in its declaration.
 fn sized(draft: &mut Draft<'_>, words: &[u8]) -> Drafted {
-    let Some(name) = draft.finding.name else {
-        return Ok(());
-    };
-    match declared_at(draft, &name) {
-        Some(declared) => draft.after(declared, words),
-        None => Ok(()),
-    }
+    let name = draft.name()?;
+    let declared = declared_at(draft, &name)?;
+    draft.after(declared, words)
 }
 
 /// Whether the name of a token is a function of the library, or one that the source defines.
 pub(crate) fn is_function(draft: &Draft<'_>, token: usize) -> bool {
-    match draft.at(token) {
-        Lexeme::Name(name) => arguments_asked(draft, &name).is_some(),
-        _ => false,
-    }
+    let name = draft.name_at(token);
+    name.is_ok_and(|name| arguments_asked(draft, &name).is_some())
 }
 
 /// How many arguments a function asks for, of the library or one that the source defines.
@@ -404,18 +371,10 @@ pub(crate) fn arguments_between(draft: &Draft<'_>, opener: usize) -> u64 {
 /// A declaration by `auto` without a word that is declared already, as a parameter or by `auto`, and not as a vector.
 pub(crate) fn declared_again(draft: &mut Draft<'_>) -> Drafted {
     let token = draft.site.token;
-    let (Some(name), Some(place)) = (draft.finding.name, draft.finding.related) else {
-        return Ok(());
-    };
-    let first = token_at(draft.spans, place.start);
-    let is_parameter = match body_of(draft) {
-        Some(brace) => first < brace,
-        None => false,
-    };
-    let is_word = is_parameter || declared_at(draft, &name) == Some(first);
-    if !is_word || draft.is(token.wrapping_add(1), &Like::Number) || !is_by_auto(draft, token) {
-        return Ok(());
-    }
+    let (name, first) = (draft.name()?, draft.second()?);
+    let is_parameter = body_of(draft).is_some_and(|brace| first < brace);
+    only_if(is_parameter || declared_at(draft, &name)? == first)?;
+    only_if(!draft.is(token.wrapping_add(1), &Like::Number) && is_by_auto(draft, token))?;
     undeclared(draft, token)
 }
 
