@@ -1,85 +1,93 @@
 -- Promise: changes that are never made without a choice, and some that may be.
-use Rattle.std.specs.Prelude.{◌≡◌, ℕ, ◌≤◌, true, false, List, [], codes, count_by}
+use Rattle.std.specs.Prelude.{◌≡◌, ℕ, ◌≤◌, Bool, true, false, List, [], ◌∷◌, codes, count_by}
+use Rattle.std.specs.List.{list_all, list_any}
 use Rattle.bword.specs.declared.edition.Edition.{Edition}
 use Rattle.bword.specs.declared.edition.Edition.TheVariants as editions
 use Rattle.bcheck.specs.Spares.{is_quote, spares}
 
--- a change of this source to that one, which takes these bytes out, is refused; or it may be made
-abbrev pub IsRefused : (source new taken : List ℕ) → Type 0
-IsRefused source new taken = spares editions.One source new taken ≡ false
+-- whether a change needs no choice: of this source to that one, where these bytes are taken out
+abbrev pub is_made : (List ℕ × List ℕ × List ℕ) → Bool
+is_made change = spares editions.One change.0 change.1 change.2
 
-abbrev pub MayBe : (source new taken : List ℕ) → Type 0
-MayBe source new taken = spares editions.One source new taken ≡ true
+abbrev pub refused : List (List ℕ × List ℕ × List ℕ)
+refused =
+    -- A brace, a declaration, a statement or a byte of a string is taken out, a declaration is made of a call, tokens are
+    -- changed at two places, or a comment is opened before a statement.
+    (codes "{}}", codes "{}", codes "}") ∷
+    (codes "auto i;", [], codes "auto i;") ∷
+    (codes "f();", [], codes "f();") ∷
+    (codes "\"ab\"", codes "\"b\"", codes "a") ∷
+    (codes "a f(1)", codes "a,f 1", codes " f(1)") ∷
+    (codes "a;b;c", codes "x;b;y", codes "a;b;c") ∷
+    (codes "a;/*b*/", codes "/*a;/*b*/", []) ∷
+    -- A way out of a function or a loop is put in, four pieces, a call, or a name that doesn't stand in the source.
+    (codes "a;", codes "return;a;", []) ∷
+    (codes "a", codes "a;;;;", []) ∷
+    (codes "a;", codes "exit();a;", []) ∷
+    (codes "f();a;", codes "f();f()a;", []) ∷
+    (codes "{a;", codes "{auto b;a;", []) ∷
+    (codes "c>1&<9", codes "c>1&d<9", []) ∷
+    -- Three signs are taken out, a name, or another operator; a sign stands for each other one.
+    (codes "f(a))));", codes "f(a);", codes ")))") ∷
+    (codes "f(a b);", codes "f(a);", codes " b") ∷
+    (codes "a-(b);", codes "a(b);", codes "-") ∷
+    (codes "a<b", codes "a>b", codes "<") ∷
+    (codes "a+b", codes "a-b", codes "+") ∷
+    -- `==` becomes `=` in a condition or a value, and `=` becomes `==` where a statement begins with a word that it sets.
+    (codes "if(a==b)c;", codes "if(a=b)c;", codes "==") ∷
+    (codes "{x=a==b;", codes "{x=a=b;", codes "==") ∷
+    (codes "{a=b;", codes "{a==b;", codes "=") ∷
+    -- A name for another one with two letters more or none of its letters; an index for another one.
+    (codes "tol;", codes "total;", codes "tol") ∷
+    (codes "count;", codes "total;", codes "count") ∷
+    (codes "i;", codes "j;", codes "i") ∷
+    (codes "v0];", codes "v[1];", codes "v0") ∷
+    -- A declaration without a name or a value of it, or with a call; an index is moved.
+    (codes "int i,j;", codes "auto i;", codes "int i,j") ∷
+    (codes "auto i=5,j;", codes "auto i,j;i=0;", codes "auto i=5,j;") ∷
+    (codes "f();int i;", codes "f();auto i;f();", codes "int i;") ∷
+    (codes "x[i]=y;", codes "x=y[i];", codes "x[i]=y") ∷
+    -- A remark with a word less, no name of a `#define`, more than it, no number, and more than a prototype.
+    (codes "//a b", codes "/*a*/", codes "//a b") ∷
+    (codes "#define n 5", [], codes "#define n 5") ∷
+    (codes "#define n 5", codes "n 5;m;", codes "#define n 5") ∷
+    (codes "0x10", codes "n", codes "0x10") ∷
+    (codes "int f(a);b", codes "c;b", codes "int f(a);") ∷ []
+
+abbrev pub made : List (List ℕ × List ℕ × List ℕ)
+made =
+    -- A `;` is put in, three pieces, a declaration or a name alone that stands in the source, or a quote.
+    (codes "a}", codes "a;}", []) ∷
+    (codes "a", codes "a;;;", []) ∷
+    (codes "{a;", codes "{auto a;a;", []) ∷
+    (codes "c>1&<9", codes "c>1&c<9", []) ∷
+    (codes "f(\"a,b);", codes "f(\"a\",b);", []) ∷
+    -- One sign or two are taken out, or a sign stands for another one.
+    (codes "f(a));", codes "f(a);", codes ")") ∷
+    (codes "f(a)));", codes "f(a);", codes "))") ∷
+    (codes "a=<b", codes "a<=b", codes "=<") ∷
+    (codes "a+=b", codes "a=+b", codes "+=") ∷
+    -- `==` becomes `=` where a statement begins with a word that this sets, and `=` becomes `==` elsewhere.
+    (codes "{a==b;", codes "{a=b;", codes "==") ∷
+    (codes "{v[i]==b;", codes "{v[i]=b;", codes "==") ∷
+    (codes "{*v++==b;", codes "{*v++=b;", codes "==") ∷
+    (codes "if(a='b')c;", codes "if(a=='b')c;", codes "=") ∷
+    -- A name with one letter more or other, or with a `[`; a declaration, whose type goes and whose values move.
+    (codes "totl;", codes "total;", codes "totl") ∷
+    (codes "ii;", codes "i;", codes "ii") ∷
+    (codes "v0];", codes "v[0];", []) ∷
+    (codes "int i;", codes "auto i;", codes "int") ∷
+    (codes "auto i=0,j;", codes "auto i,j;i=0;", codes "auto i=0,j;") ∷
+    (codes "v=[1,2];", codes "v[0]=1;v[1]=2;", codes "v=[1,2];") ∷
+    -- A remark, the name and the value of a `#define`, a number; and a prototype is taken out.
+    (codes "//a b", codes "/*a b*/", codes "//a b") ∷
+    (codes "#define n 5", codes "n 5;", codes "#define n 5") ∷
+    (codes "0x10", codes "16", codes "0x10") ∷
+    (codes "int f(a);b", codes "b", codes "int f(a);") ∷ []
 
 pub record WrongChanges : Type 0 where
-  -- No kind takes out a brace, a declaration, a statement or a byte of a string, makes a declaration of a call, changes
-  -- tokens at two places, or opens a comment before a statement.
-  pub brace : IsRefused (codes "{}}") (codes "{}") (codes "}")
-  pub declaration : IsRefused (codes "auto i;") [] (codes "auto i;")
-  pub statement : IsRefused (codes "f();") [] (codes "f();")
-  pub string_byte : IsRefused (codes "\"ab\"") (codes "\"b\"") (codes "a")
-  pub call : IsRefused (codes "a f(1)") (codes "a,f 1") (codes " f(1)")
-  pub elsewhere : IsRefused (codes "a;b;c") (codes "x;b;y") (codes "a;b;c")
-  pub comment : IsRefused (codes "a;/*b*/") (codes "/*a;/*b*/") []
-  -- What is put in: a `;`, and no way out of a function or a loop. Three pieces, and no fourth one.
-  pub semicolon : MayBe (codes "a}") (codes "a;}") []
-  pub way_out : IsRefused (codes "a;") (codes "return;a;") []
-  pub three : MayBe (codes "a") (codes "a;;;") []
-  pub four : IsRefused (codes "a") (codes "a;;;;") []
-  -- No call, whether its name stands in the source or not; a declaration, or a name alone, if it stands there; and a
-  -- quote, whatever comes after it.
-  pub put_call : IsRefused (codes "a;") (codes "exit();a;") []
-  pub known_call : IsRefused (codes "f();a;") (codes "f();f()a;") []
-  pub declared : MayBe (codes "{a;") (codes "{auto a;a;") []
-  pub other_declared : IsRefused (codes "{a;") (codes "{auto b;a;") []
-  pub compared : MayBe (codes "c>1&<9") (codes "c>1&c<9") []
-  pub other_compared : IsRefused (codes "c>1&<9") (codes "c>1&d<9") []
-  pub quote : MayBe (codes "f(\"a,b);") (codes "f(\"a\",b);") []
-  -- What is taken out: one sign or two, and no third one, no name and no other operator.
-  pub one_sign : MayBe (codes "f(a));") (codes "f(a);") (codes ")")
-  pub two_signs : MayBe (codes "f(a)));") (codes "f(a);") (codes "))")
-  pub three_signs : IsRefused (codes "f(a))));") (codes "f(a);") (codes ")))")
-  pub taken_name : IsRefused (codes "f(a b);") (codes "f(a);") (codes " b")
-  pub taken_operator : IsRefused (codes "a-(b);") (codes "a(b);") (codes "-")
-  -- A sign for another one, and not for each other one.
-  pub sign : MayBe (codes "a=<b") (codes "a<=b") (codes "=<")
-  pub two_for_one : MayBe (codes "a+=b") (codes "a=+b") (codes "+=")
-  pub other_sign : IsRefused (codes "a<b") (codes "a>b") (codes "<")
-  pub other_operator : IsRefused (codes "a+b") (codes "a-b") (codes "+")
-  -- `==` becomes `=` where a statement begins with a word that this sets, and `=` becomes `==` elsewhere.
-  pub statement_sets : MayBe (codes "{a==b;") (codes "{a=b;") (codes "==")
-  pub index_sets : MayBe (codes "{v[i]==b;") (codes "{v[i]=b;") (codes "==")
-  pub count_sets : MayBe (codes "{*v++==b;") (codes "{*v++=b;") (codes "==")
-  pub condition_sets : IsRefused (codes "if(a==b)c;") (codes "if(a=b)c;") (codes "==")
-  pub value_sets : IsRefused (codes "{x=a==b;") (codes "{x=a=b;") (codes "==")
-  pub condition_compares : MayBe (codes "if(a='b')c;") (codes "if(a=='b')c;") (codes "=")
-  pub statement_compares : IsRefused (codes "{a=b;") (codes "{a==b;") (codes "=")
-  -- A name for another one: with one letter more or other, and not with two, nor with no letter of it.
-  pub name : MayBe (codes "totl;") (codes "total;") (codes "totl")
-  pub far_name : IsRefused (codes "tol;") (codes "total;") (codes "tol")
-  pub other_name : IsRefused (codes "count;") (codes "total;") (codes "count")
-  pub letter_doubled : MayBe (codes "ii;") (codes "i;") (codes "ii")
-  pub other_letter : IsRefused (codes "i;") (codes "j;") (codes "i")
-  pub index : MayBe (codes "v0];") (codes "v[0];") []
-  pub other_index : IsRefused (codes "v0];") (codes "v[1];") (codes "v0")
-  -- A declaration: its type goes, a value moves, and no name and no value goes. No call comes, and an index stays.
-  pub typed : MayBe (codes "int i;") (codes "auto i;") (codes "int")
-  pub value : MayBe (codes "auto i=0,j;") (codes "auto i,j;i=0;") (codes "auto i=0,j;")
-  pub lost_name : IsRefused (codes "int i,j;") (codes "auto i;") (codes "int i,j")
-  pub lost_value : IsRefused (codes "auto i=5,j;") (codes "auto i,j;i=0;") (codes "auto i=5,j;")
-  pub list : MayBe (codes "v=[1,2];") (codes "v[0]=1;v[1]=2;") (codes "v=[1,2];")
-  pub declared_call : IsRefused (codes "f();int i;") (codes "f();auto i;f();") (codes "int i;")
-  pub moved_index : IsRefused (codes "x[i]=y;") (codes "x=y[i];") (codes "x[i]=y")
-  -- What is of another language: a remark without a word less, the name and the value of a `#define`, a number.
-  pub remark : MayBe (codes "//a b") (codes "/*a b*/") (codes "//a b")
-  pub lost_remark : IsRefused (codes "//a b") (codes "/*a*/") (codes "//a b")
-  pub define : MayBe (codes "#define n 5") (codes "n 5;") (codes "#define n 5")
-  pub lost_define : IsRefused (codes "#define n 5") [] (codes "#define n 5")
-  pub longer_define : IsRefused (codes "#define n 5") (codes "n 5;m;") (codes "#define n 5")
-  pub number : MayBe (codes "0x10") (codes "16") (codes "0x10")
-  pub no_number : IsRefused (codes "0x10") (codes "n") (codes "0x10")
-  pub prototype : MayBe (codes "int f(a);b") (codes "b") (codes "int f(a);")
-  pub other_prototype : IsRefused (codes "int f(a);b") (codes "c;b") (codes "int f(a);")
+  pub none_refused : list_any is_made refused ≡ false
+  pub all_made : list_all is_made made ≡ true
   -- Of any source: one after which a quote or a backslash is missing.
   pub quotes : (edition : Edition) (source new taken : List ℕ) → spares edition source new taken ≡ true
       → count_by is_quote source ≤ count_by is_quote new

@@ -20,14 +20,66 @@ use Rattle.bcheck.specs.declared.spares.Trial.{Trial}
 use Rattle.bcheck.specs.Sections.{is_end}
 use Rattle.bcheck.specs.UndefinedNames.{heading_words, type_words}
 
--- what no token is
-abbrev pub is_wrong : Option Lexeme → Bool
-is_wrong (Some (lexeme.Bad letters)) = true
-is_wrong l = false
+-- words of other languages, which may be taken out
+abbrev pub other_words : List (List ℕ)
+other_words = codes "then" ∷ codes "do" ∷ []
+
+unfoldable pub is_other_word : List ℕ → Bool
+is_other_word name =
+    list_any (same_name name) type_words
+    || (list_any (same_name name) heading_words || list_any (same_name name) other_words)
+
+abbrev pub is_other : Option Lexeme → Bool
+is_other (Some (lexeme.Name name)) = is_other_word name
+is_other l = false
+
+-- Signs that may be taken out: brackets but for braces, what stands between, and what other languages double.
+abbrev pub is_sign : Option Lexeme → Bool
+is_sign (Some lexeme.Comma) = true
+is_sign (Some lexeme.Semicolon) = true
+is_sign (Some lexeme.Colon) = true
+is_sign (Some lexeme.OpenParen) = true
+is_sign (Some lexeme.CloseParen) = true
+is_sign (Some lexeme.OpenBracket) = true
+is_sign (Some lexeme.CloseBracket) = true
+is_sign (Some (lexeme.Assign None)) = true
+is_sign (Some (lexeme.Operator operator.And)) = true
+is_sign (Some (lexeme.Operator operator.Or)) = true
+is_sign (Some (lexeme.Operator operator.Div)) = true
+is_sign l = false
+
+-- The classes: what is neither a sign nor such a word, signs, keywords with which a function or a loop is left, names,
+-- numbers, the star of a pointer, what opens a call, comments and strings, what no token is, and of what a declaration
+-- and a prototype consist.
+unfoldable pub is_of_class : Class → Option Lexeme → Bool
+is_of_class class.Bound l = not (is_sign l || is_other l)
+is_of_class class.Sign l = is_sign l
+is_of_class class.WayOut (Some (lexeme.Keyword keyword.Goto)) = true
+is_of_class class.WayOut (Some (lexeme.Keyword keyword.Return)) = true
+is_of_class class.WayOut (Some (lexeme.Keyword keyword.Break)) = true
+is_of_class class.Name (Some (lexeme.Name name)) = true
+is_of_class class.Number (Some (lexeme.Number n)) = true
+is_of_class class.Star (Some (lexeme.Operator operator.Mul)) = true
+is_of_class class.Call (Some lexeme.OpenParen) = true
+is_of_class class.Quoted None = true
+is_of_class class.Quoted (Some lexeme.String) = true
+is_of_class class.Wrong (Some (lexeme.Bad letters)) = true
+is_of_class class.Declaration (Some (lexeme.Name name)) = true
+is_of_class class.Declaration (Some (lexeme.Keyword keyword.Auto)) = true
+is_of_class class.Declaration (Some (lexeme.Keyword keyword.Extrn)) = true
+is_of_class class.Declaration (Some lexeme.Comma) = true
+is_of_class class.Declaration (Some lexeme.Semicolon) = true
+is_of_class class.Prototype (Some (lexeme.Name name)) = true
+is_of_class class.Prototype (Some (lexeme.Operator op)) = true
+is_of_class class.Prototype (Some lexeme.Comma) = true
+is_of_class class.Prototype (Some lexeme.OpenParen) = true
+is_of_class class.Prototype (Some lexeme.CloseParen) = true
+is_of_class class.Prototype (Some lexeme.Semicolon) = true
+is_of_class c l = false
 
 -- the piece, if it is none that is wrong
 abbrev pub right_piece : PlacedPiece → List PlacedPiece
-right_piece p = if is_wrong p.lexeme then [] else p ∷ []
+right_piece p = if is_of_class class.Wrong p.lexeme then [] else p ∷ []
 
 -- those from a place on, among as many comments and tokens as the fuel
 unfoldable pub right_from : Edition → (fuel : ℕ) → List ℕ → (at : ℕ) → List PlacedPiece
@@ -108,65 +160,16 @@ swap_of t = record {
   pieces = t.pieces.now;
 }
 
--- comments and strings
-abbrev pub is_quoted : Option Lexeme → Bool
-is_quoted None = true
-is_quoted (Some lexeme.String) = true
-is_quoted l = false
-
--- words of other languages, which may be taken out
-abbrev pub other_words : List (List ℕ)
-other_words = codes "then" ∷ codes "do" ∷ []
-
-unfoldable pub is_other_word : List ℕ → Bool
-is_other_word name =
-    list_any (same_name name) type_words
-    || (list_any (same_name name) heading_words || list_any (same_name name) other_words)
-
-abbrev pub is_other : Option Lexeme → Bool
-is_other (Some (lexeme.Name name)) = is_other_word name
-is_other l = false
-
--- Signs that may be taken out: brackets but for braces, what stands between, and what other languages double.
-abbrev pub is_sign : Option Lexeme → Bool
-is_sign (Some lexeme.Comma) = true
-is_sign (Some lexeme.Semicolon) = true
-is_sign (Some lexeme.Colon) = true
-is_sign (Some lexeme.OpenParen) = true
-is_sign (Some lexeme.CloseParen) = true
-is_sign (Some lexeme.OpenBracket) = true
-is_sign (Some lexeme.CloseBracket) = true
-is_sign (Some (lexeme.Assign None)) = true
-is_sign (Some (lexeme.Operator operator.And)) = true
-is_sign (Some (lexeme.Operator operator.Or)) = true
-is_sign (Some (lexeme.Operator operator.Div)) = true
-is_sign l = false
-
--- keywords with which a function or a loop is left
-abbrev pub is_leaving : Option Lexeme → Bool
-is_leaving (Some (lexeme.Keyword keyword.Goto)) = true
-is_leaving (Some (lexeme.Keyword keyword.Return)) = true
-is_leaving (Some (lexeme.Keyword keyword.Break)) = true
-is_leaving l = false
-
-abbrev pub is_name : Option Lexeme → Bool
-is_name (Some (lexeme.Name name)) = true
-is_name l = false
-
-abbrev pub is_call : Option Lexeme → Bool
-is_call (Some lexeme.OpenParen) = true
-is_call l = false
-
--- what is counted: what is neither a sign nor such a word, signs, such keywords, names, and what opens a call
-unfoldable pub is_of_class : Class → PlacedPiece → Bool
-is_of_class class.Bound p = not (is_sign p.lexeme || is_other p.lexeme)
-is_of_class class.Sign p = is_sign p.lexeme
-is_of_class class.WayOut p = is_leaving p.lexeme
-is_of_class class.Name p = is_name p.lexeme
-is_of_class class.Call p = is_call p.lexeme
-
 abbrev pub count_of : Class → List PlacedPiece → ℕ
-count_of c ps = count_by (is_of_class c) ps
+count_of c ps = count_by (λ p. is_of_class c p.lexeme) ps
+
+-- all are of a class, or there is one alone, of this class
+abbrev pub are_of_class : Class → List PlacedPiece → Bool
+are_of_class c ps = list_all (λ p. is_of_class c p.lexeme) ps
+
+abbrev pub is_one : Class → List PlacedPiece → Bool
+is_one c [] = false
+is_one c (p ∷ ps) = nat_le (length ps) 0 && is_of_class c p.lexeme
 
 -- no more of a class are there afterwards
 abbrev pub adds_none : Class → Pair → Bool
@@ -202,29 +205,17 @@ is_plain b = is_letter b && not (is_quote b || (b == star))
 
 -- a piece that is a name stands in the source
 unfoldable pub is_known : (whole : Pair) → (new : List ℕ) → PlacedPiece → Bool
-is_known whole new q = not (is_name q.lexeme) || nat_lt 0 (times new q whole.source whole.olds)
+is_known whole new q = not (is_of_class class.Name q.lexeme) || nat_lt 0 (times new q whole.source whole.olds)
 
 abbrev pub knows : (whole p : Pair) → Bool
 knows whole p = list_all (is_known whole p.new) p.news
 
--- of what a declaration consists
-abbrev pub is_declaring : Option Lexeme → Bool
-is_declaring (Some (lexeme.Name name)) = true
-is_declaring (Some (lexeme.Keyword keyword.Auto)) = true
-is_declaring (Some (lexeme.Keyword keyword.Extrn)) = true
-is_declaring (Some lexeme.Comma) = true
-is_declaring (Some lexeme.Semicolon) = true
-is_declaring l = false
-
 -- The kinds of changes. One puts pieces in, and all that were stay: nothing but quotes and stars, or three pieces at
 -- most, and a name only in a declaration or alone, if it stands in the source.
-abbrev pub are_declaring : List PlacedPiece → Bool
-are_declaring ps = list_all (λ p. is_declaring p.lexeme) ps
-
 abbrev pub puts_few : (whole p : Pair) → Bool
 puts_few whole p =
     nat_le (length p.news) (length p.olds + 3)
-    && (adds_none class.Name p || (are_declaring p.news && knows whole p))
+    && (adds_none class.Name p || (are_of_class class.Declaration p.news && knows whole p))
 
 abbrev pub puts : (whole p : Pair) → Bool
 puts whole p =
@@ -251,7 +242,8 @@ begins word source (p ∷ ps) = bytes_eq (slice_range source p.first p.end) word
 -- Pieces assign a list in brackets to a name.
 abbrev pub assigns_list : (source : List ℕ) → List PlacedPiece → Bool
 assigns_list source ps =
-    is_name (first_lexeme ps) && (begins (codes "=") source (drop 1 ps) && begins (codes "[") source (drop 2 ps))
+    is_of_class class.Name (first_lexeme ps)
+    && (begins (codes "=") source (drop 1 ps) && begins (codes "[") source (drop 2 ps))
 
 -- A declaration of another language becomes one of this: types, signs and stars go, and values move. It is one by the
 -- word with which what changes begins, or by what is taken out. Neither names that are new nor calls are put in.
@@ -259,12 +251,9 @@ abbrev pub begins_declaration : (olds : List PlacedPiece) → (taken : List ℕ)
 begins_declaration olds taken pieces =
     is_other (first_lexeme olds) || (begins (codes "auto") taken pieces || assigns_list taken pieces)
 
-abbrev pub is_star : Option Lexeme → Bool
-is_star (Some (lexeme.Operator operator.Mul)) = true
-is_star l = false
-
 unfoldable pub stays_declared : Pair → PlacedPiece → Bool
-stays_declared pair p = (not (is_of_class class.Bound p) || is_star p.lexeme) || stays pair p
+stays_declared pair p =
+    (not (is_of_class class.Bound p.lexeme) || is_of_class class.Star p.lexeme) || stays pair p
 
 abbrev pub keeps_declared : Pair → Bool
 keeps_declared pair = list_all (stays_declared pair) pair.olds
@@ -301,7 +290,7 @@ ends_part source ps =
 
 abbrev pub sets_name : (source : List ℕ) → List PlacedPiece → Bool
 sets_name source ps =
-    is_name (first_lexeme ps)
+    is_of_class class.Name (first_lexeme ps)
     && (ends_part source (drop 1 ps) || (begins (codes "*") source (drop 1 ps) && ends_part source (drop 2 ps)))
 
 abbrev pub sets_index : (source : List ℕ) → List PlacedPiece → Bool
@@ -336,10 +325,6 @@ are_near name other =
     && ((nat_le (letters_apart name other) 1 && nat_lt (letters_apart name other) (length name))
     && nat_le (letters_apart other name) 1)
 
-abbrev pub are_one_name : List PlacedPiece → Bool
-are_one_name [] = false
-are_one_name (p ∷ ps) = nat_le (length ps) 0 && is_name p.lexeme
-
 -- A `[` parts a name from an index.
 abbrev pub open_bracket : ℕ
 open_bracket = 91
@@ -357,7 +342,8 @@ joined source ps = flat_map (λ p. slice_range source p.first p.end) ps
 
 -- What stands for a name alone is another name, or an index.
 abbrev pub renames : Pair → (old new : List ℕ) → Bool
-renames p old new = are_one_name p.olds && (are_one_name p.news && are_near old new || opens old new)
+renames p old new =
+    is_one class.Name p.olds && (is_one class.Name p.news && are_near old new || opens old new)
 
 abbrev pub fits_kind : Swap → (old new : List ℕ) → Bool
 fits_kind s old new =
@@ -380,16 +366,6 @@ begins_foreign bytes =
     begins_with 35 bytes || ((begins_with 47 bytes && begins_with 47 rest)
     || (begins_with 48 bytes && (begins_with 120 rest || begins_with 88 rest)))
 
--- a token of a prototype, which begins with a type
-unfoldable pub is_of_prototype : Option Lexeme → Bool
-is_of_prototype (Some (lexeme.Name name)) = true
-is_of_prototype (Some (lexeme.Operator op)) = true
-is_of_prototype (Some lexeme.Comma) = true
-is_of_prototype (Some lexeme.OpenParen) = true
-is_of_prototype (Some lexeme.CloseParen) = true
-is_of_prototype (Some lexeme.Semicolon) = true
-is_of_prototype l = false
-
 unfoldable pub is_type_word : List ℕ → Bool
 is_type_word name = list_any (same_name name) type_words
 
@@ -397,11 +373,9 @@ abbrev pub is_type : Option Lexeme → Bool
 is_type (Some (lexeme.Name name)) = is_type_word name
 is_type l = false
 
-abbrev pub are_of_prototype : List PlacedPiece → Bool
-are_of_prototype ps = list_all (λ p. is_of_prototype p.lexeme) ps
-
+-- tokens of a prototype, which begins with a type
 abbrev pub is_prototype : List PlacedPiece → Bool
-is_prototype ps = is_type (first_lexeme ps) && are_of_prototype ps
+is_prototype ps = is_type (first_lexeme ps) && are_of_class class.Prototype ps
 
 -- these pieces, which change, are in such bytes or such tokens alone, which are taken out
 abbrev pub is_foreign : (taken : List ℕ) → (pieces olds : List PlacedPiece) → Bool
@@ -417,18 +391,10 @@ are_comment new (p ∷ ps) taken =
     && (is_none p.lexeme
     && nat_le (count_by is_letter taken + 2) (count_by is_letter (slice_range new p.first p.end)))
 
-abbrev pub is_number : Option Lexeme → Bool
-is_number (Some (lexeme.Number n)) = true
-is_number l = false
-
-abbrev pub are_number : List PlacedPiece → Bool
-are_number [] = false
-are_number (p ∷ ps) = nat_le (length ps) 0 && is_number p.lexeme
-
 abbrev pub translates : Pair → (taken : List ℕ) → Bool
 translates p taken =
     are_comment p.new p.news taken
-    || (if begins_with 48 taken then are_number p.news
+    || (if begins_with 48 taken then is_one class.Number p.news
     else (if begins (codes "define") p.source p.olds
     then are_in p.source (drop 1 p.olds) p.new p.news && nat_le (length p.news) (length p.olds)
     else nat_le (length p.news) 0))
@@ -439,7 +405,7 @@ abbrev pub most_changed : ℕ
 most_changed = 256
 
 abbrev pub keeps_quoted : Pair → Bool
-keeps_quoted pair = list_all (λ p. not (is_quoted p.lexeme) || stays pair p) pair.olds
+keeps_quoted pair = list_all (λ p. not (is_of_class class.Quoted p.lexeme) || stays pair p) pair.olds
 
 abbrev pub keeps : Swap → Bool
 keeps s =

@@ -4,20 +4,16 @@ ghost use Rattle.std.specs.Prelude.{if◌then◌else◌, position, reverse, slic
 ghost use Rattle.std.specs.List.{list_any};
 ghost use Rattle.bword.specs.Words.{same_name};
 ghost use Rattle.bcheck.specs.ChangesExcluded.{WrongChanges};
-ghost use Rattle.bcheck.specs.Spares.{adds_none, alike, are_comment, are_declaring, are_in, are_near, are_number};
-ghost use Rattle.bcheck.specs.Spares.{are_of_prototype};
-ghost use Rattle.bcheck.specs.Spares.{are_one_name, assigns_list, before_back, begins, begins_alike};
-ghost use Rattle.bcheck.specs.Spares.{begins_declaration, begins_foreign, begins_with, count_of, ends_part};
-ghost use Rattle.bcheck.specs.Spares.{first_lexeme, fits_kind, fits_sign, is_call, is_declaring, is_foreign, is_known};
-ghost use Rattle.bcheck.specs.Spares.{is_leaving, is_letter, is_name, is_number, is_of_class, is_of_kind};
-ghost use Rattle.bcheck.specs.Spares.{is_of_prototype, is_other, is_other_word, is_plain, is_prototype, is_quote};
-ghost use Rattle.bcheck.specs.Spares.{is_quoted, is_row, is_same_piece, is_sign, is_star, is_type, is_wrong, joined};
-ghost use Rattle.bcheck.specs.Spares.{keeps, keeps_declared, keeps_quoted, knows, letters_apart, open_bracket, opens};
-ghost use Rattle.bcheck.specs.Spares.{opens_at, other_words, pair_of, puts, puts_few, renames};
+ghost use Rattle.bcheck.specs.Spares.{adds_none, alike, are_of_class, is_one, are_comment, are_in, are_near};
+ghost use Rattle.bcheck.specs.Spares.{assigns_list, before_back, begins, begins_alike, begins_declaration};
+ghost use Rattle.bcheck.specs.Spares.{begins_foreign, begins_with, count_of, ends_part, first_lexeme, fits_kind};
+ghost use Rattle.bcheck.specs.Spares.{fits_sign, is_foreign, is_known, is_letter, is_of_class, is_of_kind, is_other};
+ghost use Rattle.bcheck.specs.Spares.{is_other_word, is_plain, is_prototype, is_quote, is_row, is_same_piece, is_sign};
+ghost use Rattle.bcheck.specs.Spares.{is_type, joined, keeps, keeps_declared, keeps_quoted, knows, letters_apart};
+ghost use Rattle.bcheck.specs.Spares.{open_bracket, opens, opens_at, other_words, pair_of, puts, puts_few, renames};
 ghost use Rattle.bcheck.specs.Spares.{rest_back, right_piece, right_pieces, sets_index, sets_name, sets_place};
-ghost use Rattle.bcheck.specs.Spares.{sets_word, spares};
-ghost use Rattle.bcheck.specs.Spares.{stand_rows, stands, stays, stays_declared, swap_of, takes, times, translates};
-ghost use Rattle.bcheck.specs.Spares.{turns_declaration};
+ghost use Rattle.bcheck.specs.Spares.{sets_word, spares, stands, stays, stays_declared, swap_of, takes, times};
+ghost use Rattle.bcheck.specs.Spares.{translates, turns_declaration};
 
 use crate::foreign::heading_word;
 use crate::further::is_end;
@@ -46,7 +42,7 @@ const STAND_ROWS: [(&str, &str); 42] = [
     ("<0", "=='*e'"), ("-1<", "'*e'!="), ("0<=", "'*e'!="), ("-1>=", "'*e'=="), ("0>", "'*e'=="),
 ];
 
-/// What is counted of pieces.
+/// A class of comments and tokens.
 #[derive(Clone, Copy)]
 enum Class {
     /// What is neither a sign that may be taken out nor a word of another language.
@@ -55,8 +51,17 @@ enum Class {
     /// A keyword with which a function or a loop is left.
     WayOut,
     Name,
+    Number,
+    Star,
     /// The `(` of a call.
     Call,
+    /// A comment or a string.
+    Quoted,
+    /// What no token is.
+    Wrong,
+    /// Of what a declaration consists, and a prototype.
+    Declaration,
+    Prototype,
 }
 
 /// Two sources, and pieces of each.
@@ -172,14 +177,8 @@ fn puts_few(whole: &Both<'_>, both: &Both<'_>) -> bool
     ensures { result ≡ puts_few (pair_of whole.now) (pair_of both.now) }
 {
     both.news.len() <= both.olds.len().saturating_add(3)
-        && (adds_none(both, Class::Name) || are_declaring(both.news) && knows(whole, both))
-}
-
-// Whether all pieces are of a declaration.
-fn are_declaring(pieces: &[PlacedPiece]) -> bool
-    ensures { result ≡ are_declaring pieces.now }
-{
-    pieces.iter().all(|piece| is_declaring(piece.lexeme))
+        && (adds_none(both, Class::Name)
+            || are_of_class(Class::Declaration, both.news) && knows(whole, both))
 }
 
 // Whether each name among the new pieces stands in the source.
@@ -195,22 +194,7 @@ fn knows(whole: &Both<'_>, both: &Both<'_>) -> bool
 fn is_known(whole: &Both<'_>, new: &[u8], piece: &PlacedPiece) -> bool
     ensures { result ≡ is_known (pair_of whole.now) new.now piece.now }
 {
-    !is_name(piece.lexeme) || 0 < times(new, piece, whole.source, whole.olds)
-}
-
-// Whether a declaration consists of such tokens.
-fn is_declaring(lexeme: Option<Lexeme>) -> bool
-    ensures { result ≡ is_declaring lexeme }
-{
-    matches!(
-        lexeme,
-        Some(
-            Lexeme::Name(_)
-                | Lexeme::Keyword(Keyword::Auto | Keyword::Extrn)
-                | Lexeme::Comma
-                | Lexeme::Semicolon,
-        )
-    )
+    !is_of_class(Class::Name, piece.lexeme) || 0 < times(new, piece, whole.source, whole.olds)
 }
 
 // Whether none but one or two signs and words of other languages are taken out.
@@ -253,7 +237,9 @@ fn keeps_declared(both: &Both<'_>) -> bool
 fn stays_declared(both: &Both<'_>, piece: &PlacedPiece) -> bool
     ensures { result ≡ stays_declared (pair_of both.now) piece.now }
 {
-    !is_of_class(Class::Bound, piece) || is_star(piece.lexeme) || stays(both, piece)
+    !is_of_class(Class::Bound, piece.lexeme)
+        || is_of_class(Class::Star, piece.lexeme)
+        || stays(both, piece)
 }
 
 // Whether a declaration is taken out, or an assignment of a list, or what changes begins with a type.
@@ -266,7 +252,7 @@ fn begins_declaration(olds: &[PlacedPiece], taken: &[u8], pieces: &[PlacedPiece]
 fn assigns_list(source: &[u8], pieces: &[PlacedPiece]) -> bool
     ensures { result ≡ assigns_list source.now pieces.now }
 {
-    is_name(first_lexeme(pieces))
+    is_of_class(Class::Name, first_lexeme(pieces))
         && begins("=", source, rest_from(pieces, 1))
         && begins("[", source, rest_from(pieces, 2))
 }
@@ -298,12 +284,6 @@ fn rest_from(pieces: &[PlacedPiece], count: usize) -> &[PlacedPiece]
     } else {
         &[]
     }
-}
-
-fn is_star(lexeme: Option<Lexeme>) -> bool
-    ensures { result ≡ is_star lexeme }
-{
-    matches!(lexeme, Some(Lexeme::Operator(BinOp::Mul)))
 }
 
 // Whether these bytes stand for those of a sign or of a word, after such pieces of a source.
@@ -354,7 +334,7 @@ fn sets_name(source: &[u8], before: &[PlacedPiece]) -> bool
     ensures { result ≡ sets_name source.now before.now }
 {
     let rest = rest_from(before, 1);
-    is_name(first_lexeme(before))
+    is_of_class(Class::Name, first_lexeme(before))
         && (ends_part(source, rest)
             || begins("*", source, rest) && ends_part(source, rest_from(before, 2)))
 }
@@ -385,22 +365,17 @@ fn is_among_rows(old: &[u8], new: &[u8], rows: &[(&str, &str)]) -> bool
 fn renames(both: &Both<'_>, old: &[u8], new: &[u8]) -> bool
     ensures { result ≡ renames (pair_of both.now) old.now new.now }
 {
-    are_one_name(both.olds) && (are_one_name(both.news) && are_near(old, new) || opens(old, new))
+    is_one(Class::Name, both.olds)
+        && (is_one(Class::Name, both.news) && are_near(old, new) || opens(old, new))
 }
 
-fn are_one_name(pieces: &[PlacedPiece]) -> bool
-    ensures { result ≡ are_one_name pieces.now }
+fn is_one(class: Class, pieces: &[PlacedPiece]) -> bool
+    ensures { result ≡ is_one class pieces.now }
 {
     match pieces {
-        [piece] => is_name(piece.lexeme),
+        [piece] => is_of_class(class, piece.lexeme),
         _ => false,
     }
-}
-
-fn is_name(lexeme: Option<Lexeme>) -> bool
-    ensures { result ≡ is_name lexeme }
-{
-    matches!(lexeme, Some(Lexeme::Name(_)))
 }
 
 fn are_near(name: &[u8], other: &[u8]) -> bool
@@ -470,7 +445,7 @@ fn translates(both: &Both<'_>, taken: &[u8]) -> bool
         return true;
     }
     if begins_with(taken, b'0') {
-        return are_number(both.news);
+        return is_one(Class::Number, both.news);
     }
     if begins("define", both.source, both.olds) {
         let rest = Both {
@@ -503,21 +478,6 @@ fn letters(text: &[u8]) -> usize
     text.iter().filter(|byte| **byte > b' ').count()
 }
 
-fn are_number(pieces: &[PlacedPiece]) -> bool
-    ensures { result ≡ are_number pieces.now }
-{
-    match pieces {
-        [piece] => is_number(piece.lexeme),
-        _ => false,
-    }
-}
-
-fn is_number(lexeme: Option<Lexeme>) -> bool
-    ensures { result ≡ is_number lexeme }
-{
-    matches!(lexeme, Some(Lexeme::Number(_)))
-}
-
 // Whether pieces that change are in what was taken out alone, which is of another language.
 fn is_foreign(taken: &[u8], pieces: &[PlacedPiece], olds: &[PlacedPiece]) -> bool
     ensures { result ≡ is_foreign taken.now pieces.now olds.now }
@@ -544,16 +504,10 @@ fn pieces(alloc: Global, edition: Edition, source: &[u8]) -> Result<Vec<PlacedPi
 fn push_right(pieces: &mut Vec<PlacedPiece>, piece: PlacedPiece) -> Result<(), AllocError>
     ensures { OnOk result (pieces.new.items ≡ pieces.old.items ++ right_piece piece) }
 {
-    if !is_wrong(piece.lexeme) {
+    if !is_of_class(Class::Wrong, piece.lexeme) {
         pieces.push(piece)?;
     }
     Ok(())
-}
-
-fn is_wrong(lexeme: Option<Lexeme>) -> bool
-    ensures { result ≡ is_wrong lexeme }
-{
-    matches!(lexeme, Some(Lexeme::Bad(_)))
 }
 
 // The pieces after the first ones that are the same, from the last one back.
@@ -647,9 +601,7 @@ fn stays(both: &Both<'_>, piece: &PlacedPiece) -> bool
 fn keeps_quoted(both: &Both<'_>) -> bool
     ensures { result ≡ keeps_quoted (pair_of both.now) }
 {
-    both.olds
-        .iter()
-        .all(|piece| !is_quoted(piece.lexeme) || stays(both, piece))
+    both.olds.iter().all(|piece| !is_of_class(Class::Quoted, piece.lexeme) || stays(both, piece))
 }
 
 // Whether the old pieces are among the new ones, in their order.
@@ -689,30 +641,54 @@ fn count_of(pieces: &[PlacedPiece], class: Class) -> usize
 {
     pieces
         .iter()
-        .filter(|piece| is_of_class(class, piece))
+        .filter(|piece| is_of_class(class, piece.lexeme))
         .count()
 }
 
-#[tactic(auto, unfolding(crate::specs::Spares::is_of_class))]
-fn is_of_class(class: Class, piece: &PlacedPiece) -> bool
-    ensures { result ≡ is_of_class class piece.now }
+fn are_of_class(class: Class, pieces: &[PlacedPiece]) -> bool
+    ensures { result ≡ are_of_class class pieces.now }
 {
-    match class {
-        Class::Bound => !(is_sign(piece.lexeme) || is_other(piece.lexeme)),
-        Class::Sign => is_sign(piece.lexeme),
-        Class::WayOut => is_leaving(piece.lexeme),
-        Class::Name => is_name(piece.lexeme),
-        Class::Call => matches!(piece.lexeme, Some(Lexeme::OpenParen)),
-    }
+    pieces.iter().all(|piece| is_of_class(class, piece.lexeme))
 }
 
-fn is_leaving(lexeme: Option<Lexeme>) -> bool
-    ensures { result ≡ is_leaving lexeme }
+#[tactic(auto, unfolding(crate::specs::Spares::is_of_class))]
+fn is_of_class(class: Class, lexeme: Option<Lexeme>) -> bool
+    ensures { result ≡ is_of_class class lexeme }
 {
-    matches!(
-        lexeme,
-        Some(Lexeme::Keyword(Keyword::Goto | Keyword::Return | Keyword::Break))
-    )
+    match class {
+        Class::Bound => !(is_sign(lexeme) || is_other(lexeme)),
+        Class::Sign => is_sign(lexeme),
+        Class::WayOut => matches!(
+            lexeme,
+            Some(Lexeme::Keyword(Keyword::Goto | Keyword::Return | Keyword::Break))
+        ),
+        Class::Name => matches!(lexeme, Some(Lexeme::Name(_))),
+        Class::Number => matches!(lexeme, Some(Lexeme::Number(_))),
+        Class::Star => matches!(lexeme, Some(Lexeme::Operator(BinOp::Mul))),
+        Class::Call => matches!(lexeme, Some(Lexeme::OpenParen)),
+        Class::Quoted => matches!(lexeme, None | Some(Lexeme::String)),
+        Class::Wrong => matches!(lexeme, Some(Lexeme::Bad(_))),
+        Class::Declaration => matches!(
+            lexeme,
+            Some(
+                Lexeme::Name(_)
+                    | Lexeme::Keyword(Keyword::Auto | Keyword::Extrn)
+                    | Lexeme::Comma
+                    | Lexeme::Semicolon,
+            )
+        ),
+        Class::Prototype => matches!(
+            lexeme,
+            Some(
+                Lexeme::Name(_)
+                    | Lexeme::Operator(_)
+                    | Lexeme::Comma
+                    | Lexeme::OpenParen
+                    | Lexeme::CloseParen
+                    | Lexeme::Semicolon,
+            )
+        ),
+    }
 }
 
 // Whether it is a sign that may be taken out.
@@ -744,12 +720,6 @@ fn is_other(lexeme: Option<Lexeme>) -> bool
     }
 }
 
-fn is_quoted(lexeme: Option<Lexeme>) -> bool
-    ensures { result ≡ is_quoted lexeme }
-{
-    matches!(lexeme, None | Some(Lexeme::String))
-}
-
 // Whether a name is a word of another language.
 #[tactic(auto, unfolding(crate::specs::Spares::is_other_word))]
 fn is_other_word(name: &Name) -> bool
@@ -778,13 +748,7 @@ fn begins_foreign(bytes: &[u8]) -> bool
 fn is_prototype(pieces: &[PlacedPiece]) -> bool
     ensures { result ≡ is_prototype pieces.now }
 {
-    is_type(first_lexeme(pieces)) && are_of_prototype(pieces)
-}
-
-fn are_of_prototype(pieces: &[PlacedPiece]) -> bool
-    ensures { result ≡ are_of_prototype pieces.now }
-{
-    pieces.iter().all(|piece| is_of_prototype(piece.lexeme))
+    is_type(first_lexeme(pieces)) && are_of_class(Class::Prototype, pieces)
 }
 
 #[tactic(auto, unfolding(crate::specs::Spares::is_type_word))]
@@ -795,23 +759,6 @@ fn is_type(lexeme: Option<Lexeme>) -> bool
         Some(Lexeme::Name(name)) => is_type_name(name),
         _ => false,
     }
-}
-
-#[tactic(auto, unfolding(crate::specs::Spares::is_of_prototype))]
-fn is_of_prototype(lexeme: Option<Lexeme>) -> bool
-    ensures { result ≡ is_of_prototype lexeme }
-{
-    matches!(
-        lexeme,
-        Some(
-            Lexeme::Name(_)
-                | Lexeme::Operator(_)
-                | Lexeme::Comma
-                | Lexeme::OpenParen
-                | Lexeme::CloseParen
-                | Lexeme::Semicolon,
-        )
-    )
 }
 
 fn begins_with(bytes: &[u8], byte: u8) -> bool
