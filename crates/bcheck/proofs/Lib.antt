@@ -6,13 +6,11 @@ pub mod CheckExcluded
 pub mod CodesTold
 pub mod EditSteps
 pub mod FilledWords
-pub mod FindingTexts
 pub mod MendSteps
 pub mod MentionLoops
 pub mod MentionSteps
 pub mod OnLine
 pub mod TokenPlaces
-pub mod ToldNames
 pub mod PlaceSteps
 pub mod FaultLines
 pub mod Reasons

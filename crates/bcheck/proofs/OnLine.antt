@@ -1,5 +1,7 @@
 -- Words on one line.
-use Rattle.std.proofs.Common.{◌≡◌, List, [], ℕ, ◌∷◌, ◌++◌, Bool, true, false, IsTrue, arith, length, nat_le, refl, sym, subst}
+use Rattle.std.proofs.Common.{◌≡◌, ◌<◌, ◌/◌, ◌%◌, ◌==◌, List, [], ℕ, zero, suc, ◌∷◌, ◌++◌, Bool, true, false, IsTrue, if◌then◌else◌, arith, decimal, length, nat_le, refl, sym, subst}
+use Rattle.std.specs.Fmt.{digits, digits_onto, digit_glyph}
+use Rattle.std.proofs.Math.Nat.{mod-lt}
 use Rattle.std.specs.Prelude.{◌&&◌}
 use Rattle.std.specs.Int.{is_in_range}
 use Rattle.std.specs.List.{flat_map, list_all}
@@ -55,3 +57,21 @@ pub of_three : (a b c : List ℕ) → IsTrue (list_all is_on_line (a ∷ b ∷ c
 of_three a b c h =
     let rest = second (is_on_line a) _ h in
     (first (is_on_line a) _ h, first (is_on_line b) _ rest, first (is_on_line c) _ (second (is_on_line b) _ rest))
+
+-- numbers
+digit : (d : ℕ) → d < 10 → IsTrue (is_in_range 32 126 (digit_glyph false d))
+digit d h = grind (arith, nat_tests)
+
+either : (b : Bool) (x y : List ℕ) → IsTrue (is_on_line x) → IsTrue (is_on_line y) → IsTrue (is_on_line (if b then x else y))
+either true x y g h = g
+either false x y g h = h
+
+digits_are : (k n : ℕ) (acc : List ℕ) → IsTrue (is_on_line acc) → IsTrue (is_on_line (digits_onto k 10 false n acc))
+digits_are zero n acc h = h
+digits_are (suc k) n acc h =
+    let one = both _ _ (digit (n % 10) (mod-lt n (omega arith))) h in
+    either (n / 10 == 0) (digit_glyph false (n % 10) ∷ acc) _ one (digits_are k (n / 10) (digit_glyph false (n % 10) ∷ acc) one)
+
+pub digits_on_line : (n : ℕ) → IsTrue (is_on_line (decimal n))
+unfolding digits
+digits_on_line n = digits_are 64 n [] refl

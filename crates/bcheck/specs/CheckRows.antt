@@ -13,19 +13,15 @@ use Rattle.std.specs.List.{AllZip}
 use Rattle.blang.specs.declared.code.Definition.{Definition}
 use Rattle.bcheck.specs.UndefinedNames.{told_subjects}
 use Rattle.bcheck.specs.declared.mention.Subject.{Subject}
-use Rattle.bcheck.specs.Checks.{FindingParts, IsWhole, Reason, finding_text, findings_text, is_in_line, is_on_line}
-use Rattle.bcheck.specs.Checks.{second_text}
-use Rattle.bcheck.specs.Checks.{diagnostic_code, severity_of, severity_word, shown_byte}
-use Rattle.bcheck.specs.Checks.{shown_in_form, told_first}
-use Rattle.bcheck.specs.Checks.{GoesFarther, StopsBy, StopsPast, tokens_in, with_newline}
+use Rattle.bcheck.specs.Checks.{FindingParts, IsOver, IsWhole, Reason, finding_text, findings_text, is_in_line}
+use Rattle.bcheck.specs.Checks.{is_on_line, second_text, diagnostic_code, severity_of, severity_word, shown_byte}
+use Rattle.bcheck.specs.Checks.{shown_in_form, told_first, GoesFarther, StopsBy, StopsPast, tokens_in, with_newline}
 use Rattle.bcheck.specs.Checks.{change_line, cut_mark, goes_on, EditParts, IsBetter, IsLater, Outcome, edit_object}
 use Rattle.bcheck.specs.Checks.{edits_text, fault_in, mended, mended_line}
-use Rattle.bcheck.specs.CheckExcluded.{has_no_colon}
 use Rattle.bcheck.specs.RuleWarnings.{is_rule_code, rule_codes, warning_code}
 use Rattle.bcheck.specs.Tokens.{has_token_on, is_in_token, pieces_from}
-use Rattle.blang.specs.Cut.{cut, tokens_from}
-use Rattle.blang.specs.Cut.{fixed_of, greatest, keyword_of, line_number_after, longest, number_in, operator_of}
-use Rattle.blang.specs.Cut.{escape_of, other_of, whole, with_quoted_byte, word_token}
+use Rattle.blang.specs.Cut.{cut, tokens_from, fixed_of, greatest, keyword_of, line_number_after, longest, number_in}
+use Rattle.blang.specs.Cut.{operator_of, escape_of, other_of, whole, with_quoted_byte, word_token}
 use Rattle.bsources.specs.Files.{Files}
 use Rattle.bcheck.specs.declared.finding.Severity.TheVariants as severity
 use Rattle.bcheck.specs.declared.form.FindingForm.TheVariants as form
@@ -69,10 +65,22 @@ fault_codes : map codes_about (about.Nothing ∷ about.Name (codes "n") ∷ abou
     ∷ codes_with (codes "sx default") (codes "rd default") ∷ [])
 fault_codes = refl
 
--- an error has the code of the diagnostic, or that of code that doesn't load, and no other
+-- a diagnostic on a line
+abbrev at_line : ℕ → Diagnostic
+at_line line = record { letters = letters.Syntax; about = about.Nothing; line = line }
+
+-- An error has the code of the diagnostic, and no other. It stands on its line, or on one before it where no token comes
+-- any more, and in a token, unless none stands there or comes any more.
 error_codes : (d : Diagnostic) (f : Option LoadFault) (code before rest : List ℕ)
     → Reason editions.Two (Some d) f code before rest → code ≡ diagnostic_code d
 error_codes d f code before rest reason = reason.0
+
+error_places : (line : ℕ) (code before rest : List ℕ)
+    → Reason editions.Two (Some (at_line line)) None code before rest
+    → ((line_number_after 1 before ≡ line) ⊎ ((line_number_after 1 before < line) × IsOver editions.Two rest))
+    × ((is_in_token editions.Two line before rest ≡ true) ⊎ (has_token_on editions.Two line (before ++ rest) ≡ false)
+    ⊎ IsOver editions.Two rest)
+error_places line code before rest reason = (reason.1, reason.2)
 
 load_codes : (code : List ℕ) → (Reason editions.Two None (Some fault.TooLarge) code [] [] → code ≡ codes "load 2")
     × (Reason editions.Two None (Some (fault.Undefined (codes "n"))) code [] [] → code ≡ codes "load 3")
@@ -412,10 +420,7 @@ edits_for_people : finding_text form.Text severity.Error (alone (codes "x.b")) o
 unfolding digits
 edits_for_people = refl
 
--- a diagnostic on a later line, on the same one, where there was none, and none
-abbrev at_line : ℕ → Diagnostic
-at_line line = record { letters = letters.Syntax; about = about.Nothing; line = line }
-
+-- one on a later line, and one where there was none
 later_lines : (a b : ℕ) → IsLater (Some (at_line a)) (Some (at_line b)) → b < a
 later_lines a b h = h
 
@@ -477,10 +482,6 @@ others_of_long : map count_with (30 ∷ 31 ∷ []) ≡ 10 ∷ 10 ∷ []
 unfolding tokens_from cut longest greatest whole word_token keyword_of number_in operator_of other_of fixed_of escape_of
     with_quoted_byte
 others_of_long = refl
-
--- what the theorems look for: colons
-colons : map has_no_colon ([] ∷ codes "x.b" ∷ codes "a:b" ∷ codes "9;" ∷ []) ≡ (true ∷ true ∷ false ∷ true ∷ [])
-colons = refl
 
 no_findings : findings_text {source = []} form.Text 0 (alone (codes "x.b")) [] ≡ []
 no_findings = refl

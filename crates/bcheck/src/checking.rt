@@ -85,9 +85,8 @@ fn both(alloc: Global, first: &[u8], more: &[u8]) -> Result<Text, AllocError>
     Ok(text)
 }
 
-/// What no check tells: the line left out or last, one of the other edition or one without a fault, a fault without a
-/// finding, one name of several left out, nothing where a rule speaks of a token, a finding without its file, another
-/// severity, another status.
+/// What no check tells: another status than the source's, one of a write that failed where none did, nothing where a rule
+/// speaks of a token, the line of the other edition, an edit that changes nothing.
 pub fn wrong_checks_are_excluded()
     ensures { Excluded }
 {}

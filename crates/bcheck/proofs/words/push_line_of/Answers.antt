@@ -2,8 +2,7 @@ use Rattle.std.proofs.Common.{[], ◌++◌, codes, decimal, refl}
 use Rattle.std.specs.List.{flat_map}
 use Rattle.bcheck.specs.Checks.{shown_text}
 use Rattle.bcheck.proofs.AddedFindings.{on_ok}
-use Rattle.bcheck.proofs.FindingTexts.{digits_on_line}
-use Rattle.bcheck.proofs.OnLine.{both_on_line, shown_on_line, words_on_line}
+use Rattle.bcheck.proofs.OnLine.{digits_on_line, both_on_line, shown_on_line, words_on_line}
 use Rattle.bcheck.proofs.words.push_line_of.Goals as goal
 
 pub returns : goal.returns

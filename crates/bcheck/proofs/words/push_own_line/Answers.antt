@@ -1,7 +1,6 @@
 use Rattle.std.specs.Prelude.{decimal}
 use Rattle.bcheck.proofs.AddedFindings.{on_ok}
-use Rattle.bcheck.proofs.FindingTexts.{digits_on_line}
-use Rattle.bcheck.proofs.OnLine.{words_on_line}
+use Rattle.bcheck.proofs.OnLine.{digits_on_line, words_on_line}
 use Rattle.bcheck.proofs.words.push_own_line.Goals as goal
 
 pub returns : goal.returns
