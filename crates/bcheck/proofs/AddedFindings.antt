@@ -1,7 +1,7 @@
 -- Findings one after another, and what stands in each.
 use Rattle.std.proofs.Common.{◌≡◌, ◌∙◌, ◌+◌, ◌<◌, List, [], ℕ, ◌∷◌, ◌++◌, IsTrue, OnOk, Result, Ok, Err, ap, arith, append-nil, append_assoc, codes, decimal, get_or, length, map, None, Option, replicate, Some, refl, subst, suc, sym, take}
 use Rattle.std.specs.Prelude.{◌-◌, ◌≤◌, drop, min, nat_le, nat_lt}
-use Rattle.bword.specs.ByteEnds.{most}
+use Rattle.bword.specs.ByteEnds.{most, Kept}
 use Rattle.std.proofs.lemmas.Bool.Decides.{nat_tests}
 use Rattle.std.specs.List.{All, AllZip, flat_map, list_all}
 use Rattle.std.proofs.lemmas.List.{get_or_default, map-append, take-append-drop, take_all, take_more}
@@ -24,17 +24,9 @@ use Rattle.bcheck.specs.Sections.{Section, at_fault, sections}
 use Rattle.bcheck.specs.declared.finding.TheConstants.{MOST_FINDINGS}
 use Rattle.bcheck.specs.declared.verdict.Verdict.{Verdict}
 use Rattle.bcheck.specs.declared.verdict.Verdict.TheVariants as verdict
-use Rattle.bcheck.specs.Checks.{IsFurther, IsOfSection, IsOfSections, Judged, TellsSection, status_told, told_first}
-use Rattle.bcheck.specs.Checks.{EditParts, IsMended, Mends, cut_mark, edit_object, edits_text, file_member, mended_line}
-use Rattle.bcheck.specs.Checks.{mended_lines, AreFindings, EachOutcome, FindingParts, IsReason, IsWhole, Reason, Says}
-use Rattle.bcheck.specs.Checks.{Second, fault_in, finding_at, finding_column, finding_end, finding_line, finding_unit}
-use Rattle.bcheck.specs.Checks.{finding_unit_end, finding_text, findings_text, is_on_line, outcome_of, second_text}
-use Rattle.bcheck.specs.Checks.{severity_of, severity_word, shown_text, is_of_several, spot_words, told_at}
-use Rattle.bword.specs.ByteEnds.{Kept}
+use Rattle.bcheck.specs.Checks.{IsFurther, IsOfSection, IsOfSections, Judged, TellsSection, status_told, told_first, EditParts, IsMended, Mends, cut_mark, edit_object, edits_text, file_member, mended_line, mended_lines, AreFindings, EachOutcome, FindingParts, IsReason, IsWhole, Reason, Says, Second, fault_in, finding_at, finding_column, finding_end, finding_line, finding_unit, finding_unit_end, finding_text, findings_text, is_on_line, outcome_of, second_text, severity_of, severity_word, shown_text, is_of_several, spot_words, told_at}
 use Rattle.bcheck.specs.declared.told.Setting.{Setting}
-use Rattle.bcheck.specs.Findings.{AddsAfter, AddsFurther, IsAfter, IsOnSection, IsReasoned, IsStopOf, TellsAfter}
-use Rattle.bcheck.specs.Findings.{TellsFinding, matter_code, AddsFinding, AreWhole, Improves, IsExcerpt, IsOn, IsSecond}
-use Rattle.bcheck.specs.Findings.{IsTried, MendsIn, TellsOf, AreWarned, found_at, ReasonAt}
+use Rattle.bcheck.specs.Findings.{AddsAfter, AddsFurther, IsAfter, IsOnSection, IsReasoned, IsStopOf, TellsAfter, TellsFinding, matter_code, AddsFinding, AreWhole, Improves, IsExcerpt, IsOn, IsSecond, IsTried, MendsIn, TellsOf, AreWarned, found_at}
 use Rattle.bplaces.specs.Columns.{column_after}
 use Rattle.btools.specs.Quoting.{file_text, json_text}
 use Rattle.bplaces.specs.Units.{unit_column}

@@ -1,5 +1,5 @@
 -- The boundaries of a line that are still to come, and a `;` at one.
-use Rattle.std.proofs.Common.{◌≡◌, ◌∙◌, ℕ, ◌≤◌, ◌++◌, true, false, List, [], ◌∷◌, None, Option, Some, ap, append_assoc, append-nil, arith, length, refl, subst, sym}
+use Rattle.std.proofs.Common.{◌≡◌, ◌∙◌, ℕ, ◌≤◌, ◌++◌, true, false, List, [], None, Some, ap, append_assoc, append-nil, arith, length, refl, subst, sym}
 use Rattle.bword.specs.declared.edition.Edition.{Edition}
 use Rattle.blex.specs.declared.scanner.PlacedPiece.{PlacedPiece}
 use Rattle.bword.specs.ByteEnds.{Kept}

@@ -1,21 +1,28 @@
 -- The search for names that nothing defines, one name after another.
-use Rattle.std.proofs.Common.{◌≡◌, ◌∙◌, ◌+◌, ℕ, List, [], ◌∷◌, ◌++◌, Bool, true, false, cond, if◌then◌else◌, Option, Some, None, ap, append-nil, append_assoc, drop, length, map, refl, sym}
+use Rattle.std.proofs.Common.{◌≡◌, ◌∙◌, ◌+◌, ℕ, List, [], ◌∷◌, ◌++◌, Bool, true, false, cond, if◌then◌else◌, Option, Some, None, ap, append-nil, append_assoc, drop, length, map, refl, sym, ◌<◌, ◌≤◌, suc, get_or, subst, take}
 use Rattle.std.specs.Prelude.{filter, is_none, is_some, not, zip, ◌&&◌, ◌||◌}
 use Rattle.std.specs.Bool.{OnTrue}
 use Rattle.std.specs.Cmp.Lexicographic.{bytes_decides}
-use Rattle.std.specs.List.{list_any}
+use Rattle.std.specs.List.{list_any, AllZip}
 use Rattle.std.specs.Option.{option_or}
-use Rattle.std.proofs.lemmas.List.{length-map}
+use Rattle.std.proofs.lemmas.List.{length-map, drop_all, take-map}
 use Rattle.std.proofs.lemmas.List.Folds.{list_any-append}
 use Rattle.bword.specs.Words.{same_name}
 use Rattle.bnames.specs.NameTables.{KnowsOneMore, value_in, with_name}
 use Rattle.bnames.proofs.NameMembers.{is_some-value_of, members_more}
 use Rattle.blang.specs.declared.code.Definition.{Definition}
-use Rattle.blang.specs.Layout.{Shape, Spot, address_in, defined_names, library_addresses, shape_of, spots}
+use Rattle.blang.specs.Layout.{Shape, Spot, address_in, defined_names, library_addresses, shape_of, spots, names_in}
 use Rattle.bmach.proofs.Lookups.{is_some-lookup-zip, lookup-append}
 use Rattle.bmach.proofs.Spots.{length-spots_after}
-use Rattle.bcheck.specs.Mentions.{IsOneMore, Knows, Meets, is_in}
-use Rattle.bcheck.specs.UndefinedNames.{first_mentions, is_undefined}
+use Rattle.bcheck.specs.Mentions.{IsOneMore, Knows, Meets, is_in, subjects}
+use Rattle.bcheck.specs.UndefinedNames.{first_mentions, is_undefined, heading_of, subject_of, told_after, told_of, told_subjects}
+use Rattle.std.proofs.Math.Numerals.{add-one}
+use Rattle.std.proofs.Math.Seq.{drop-cons}
+use Rattle.bmach.proofs.Undefined.{map_more}
+use Rattle.bcheck.specs.Findings.{TellsOf}
+use Rattle.bcheck.specs.declared.finding.Finding.{Finding}
+use Rattle.bcheck.specs.declared.mention.Mention.{Mention}
+use Rattle.bcheck.proofs.AddedFindings.{zip_more}
 
 or_false : (b : Bool) → (b || false) ≡ b
 or_false true = refl
@@ -140,3 +147,47 @@ module _ (ds : List Definition) (before : List (List ℕ)) where
   pub all_met : (mentioned : List (List ℕ)) (i : ℕ) (names : List (List ℕ)) (table : List (List ℕ × ℕ)) → drop i mentioned ≡ [] → MeetsSoFar mentioned i names table → Meets ds before mentioned names table
   all_met mentioned i names table over so =
       (sym (so.0 ∙ ap (λ ms. names ++ later names ms) over ∙ append-nil names), so.1)
+
+-- The loops of the search for names that nothing defines.
+
+-- what a loop has left
+pub here : {A : Type 0} (xs : List A) (i : ℕ) (x : A) → i < length xs → x ≡ get_or xs i x → drop i xs ≡ x ∷ drop (i + 1) xs
+here xs i x lt is = drop-cons xs i x lt ∙ ap (λ y. y ∷ drop (suc i) xs) (sym is) ∙ ap (λ n. x ∷ drop n xs) (sym (add-one i))
+
+-- one definition more, and all of them
+module _ (ds : List Definition) where
+  abbrev pub FoundSoFar : (i : ℕ) → (found : List Mention) → (table : List (List ℕ × ℕ)) → Type 0
+  FoundSoFar i found table =
+      (seen : List (List ℕ)) × Knows ds seen table × (told_after (is_undefined ds) [] ds ≡ subjects found ++ told_after (is_undefined ds) seen (drop i ds))
+
+  pub found_more : (i : ℕ) (d : Definition) (names : List (List ℕ)) (old new : List Mention) (before after : List (List ℕ × ℕ)) → i < length ds → d ≡ get_or ds i d
+      → ((seen : List (List ℕ)) → Knows ds seen before → Meets ds seen (names_in d) names after)
+      → subjects new ≡ subjects old ++ map (subject_of (heading_of d) (shape_of d).name) (told_of (heading_of d) names)
+      → FoundSoFar i old before → FoundSoFar (i + 1) new after
+  found_more i d names old new before after lt is meets pushed so =
+      let u = is_undefined ds in
+      let seen = so.0 in
+      let met = meets seen so.1 in
+      let rest = drop (i + 1) ds in
+      let told = map (subject_of (heading_of d) (shape_of d).name) (told_of (heading_of d) names) in (
+        seen ++ names,
+        met.1,
+        so.2 ∙ ap (λ left. subjects old ++ told_after u seen left) (here ds i d lt is)
+            ∙ ap (λ ns. subjects old ++ (map (subject_of (heading_of d) (shape_of d).name) (told_of (heading_of d) ns) ++ told_after u (seen ++ ns) rest)) (sym met.0)
+            ∙ sym (append_assoc (subjects old) told (told_after u (seen ++ names) rest)) ∙ ap (λ ss. ss ++ told_after u (seen ++ names) rest) (sym pushed),
+      )
+
+  pub none_found : (table : List (List ℕ × ℕ)) → Knows ds [] table → FoundSoFar 0 [] table
+  none_found table knows = ([], knows, refl)
+
+  pub all_found : (i : ℕ) (found cut : List Mention) (table : List (List ℕ × ℕ)) → length ds ≤ i → cut ≡ take 100 found → FoundSoFar i found table → subjects cut ≡ told_subjects ds
+  all_found i found cut table over is so =
+      let u = is_undefined ds in
+      let all : told_after u [] ds ≡ subjects found = so.2 ∙ ap (λ left. subjects found ++ told_after u so.0 left) (drop_all i ds over) ∙ append-nil (subjects found) in
+      ap subjects is ∙ sym (take-map (λ (m : Mention). m.subject) 100 found) ∙ ap (take 100) (sym all)
+
+-- one finding more
+pub told_more : (source : List ℕ) (mentions : List Mention) (i : ℕ) (m : Mention) (old new : List Finding) (f : Finding) → i < length mentions → m ≡ get_or mentions i m → new ≡ old ++ f ∷ [] → TellsOf source m.subject f → AllZip (TellsOf source) (subjects (take i mentions)) old → AllZip (TellsOf source) (subjects (take (i + 1) mentions)) new
+told_more source mentions i m old new f lt is pushed on so =
+    subst (λ fs. AllZip (TellsOf source) (subjects (take (i + 1) mentions)) fs) (sym pushed)
+    (subst (λ ss. AllZip (TellsOf source) ss (old ++ f ∷ [])) (sym (map_more (λ (n : Mention). n.subject) mentions i m lt is)) (zip_more (TellsOf source) (subjects (take i mentions)) old m.subject f so on))

@@ -1,6 +1,6 @@
 -- Where the sections of a source begin, and what is found in each.
 use Rattle.std.proofs.Common.{◌≡◌, ◌≢◌, ◌∙◌, ℕ, zero, suc, ◌+◌, ◌-◌, ◌<◌, ◌≤◌, Bool, true, false, List, [], ◌∷◌, ◌++◌, Option, Some, None, ap, append-nil, append_assoc, arith, drop, get_or, inl, inr, length, length-drop, min, refl, subst, sym, take}
-use Rattle.std.specs.Prelude.{if◌then◌else◌}
+use Rattle.std.specs.Prelude.{if◌then◌else◌, Ok, Err, MatchResult}
 use Rattle.std.specs.List.{AllZip}
 use Rattle.std.proofs.lemmas.List.{take-append-drop, take_all}
 use Rattle.std.proofs.Math.Seq.{take-add}
@@ -14,15 +14,13 @@ use Rattle.blex.specs.declared.lexeme.Lexeme.TheVariants as lexeme
 use Rattle.blex.specs.declared.scanner.PlacedPiece.{PlacedPiece}
 use Rattle.blex.specs.Places.{after_blanks, next_piece}
 use Rattle.blex.proofs.PlaceSteps.{piece_grows}
-use Rattle.std.specs.Prelude.{Ok, Err, MatchResult}
 use Rattle.std.specs.Global.{Vec}
 use Rattle.blang.specs.declared.code.Definition.{Definition}
 use Rattle.btools.specs.Programs.{HasFault, IsCodeOf}
 use Rattle.bcheck.specs.declared.compiled.Compiled.{Compiled}
-use Rattle.bcheck.specs.Findings.{IsCompiled}
+use Rattle.bcheck.specs.Findings.{IsCompiled, HasFaults, IsOnSection, TellsStop, TellsAfter, TellsFault, matter_code}
 use Rattle.bcheck.specs.declared.finding.Finding.{Finding}
 use Rattle.bcheck.specs.declared.finding.TheConstants.{MOST_FINDINGS}
-use Rattle.bcheck.specs.Findings.{HasFaults, IsOnSection, TellsStop, TellsAfter, TellsFault, matter_code}
 use Rattle.bcheck.specs.Sections.{Section, StopsAlone, StopsEach, at_fault, head_after, is_end, opened, places_from, head_places, section_at, section_end, section_places, sections, sections_at}
 use Rattle.bcheck.proofs.AddedFindings.{zip_more}
 use Rattle.bcheck.proofs.FaultLines.{on_a_line}

@@ -1,8 +1,7 @@
 -- Promise: what is known of a finding before it is told.
 use Rattle.std.specs.Prelude.{◌≡◌, ℕ, ◌+◌, ◌<◌, ◌⊎◌, ◌&&◌, Bool, IsTrue, true, false, List, [], ◌∷◌, ◌++◌, codes, drop}
-use Rattle.std.specs.Prelude.{map, not}
-use Rattle.std.specs.Prelude.{Option, Some, None, IfSome, Result, Ok, Err, MatchResult, ◌≤◌, ◌-◌, length, min, nat_lt}
-use Rattle.std.specs.Prelude.{take}
+use Rattle.std.specs.Prelude.{map, not, Option, Some, None, IfSome, Result, Ok, Err, MatchResult, ◌≤◌, ◌-◌, length, min}
+use Rattle.std.specs.Prelude.{nat_lt, take}
 use Rattle.bword.specs.declared.edition.Edition.{Edition}
 use Rattle.bword.specs.ByteEnds.{most}
 use Rattle.blang.specs.Cut.{line_number_after}
@@ -11,14 +10,14 @@ use Rattle.blang.specs.declared.token.Diagnostic.{Diagnostic}
 use Rattle.blang.specs.declared.token.Letters.{Letters}
 use Rattle.blex.specs.declared.lexeme.Lexeme.{Lexeme}
 use Rattle.blex.specs.declared.lexeme.Lexeme.TheVariants as lexeme
-use Rattle.bsources.specs.Files.{Files, line_shown, own_line}
+use Rattle.bsources.specs.Files.{Files, line_shown, own_line, files_shown}
 use Rattle.bcheck.specs.Checks.{EachOutcome, EditParts, FindingParts, IsAtToken, IsBetter, Mends, Outcome, Reason}
 use Rattle.bcheck.specs.Checks.{StandsOn, TellsAll, change_line, edit_object, mended, mended_line, tokens_in}
-use Rattle.bcheck.specs.Checks.{with_newline}
+use Rattle.bcheck.specs.Checks.{with_newline, diagnostic_code, fault_in, finding_text, is_in_line, is_of_several}
+use Rattle.bcheck.specs.Checks.{is_on_line, IsFurther, IsOfSection, IsOfSections, TellsSection}
 use Rattle.bcheck.specs.Pieces.{change_text, edit_text, line_text}
 use Rattle.bplaces.specs.Columns.{column_after}
-use Rattle.bcheck.specs.Checks.{diagnostic_code, fault_in, finding_text, is_in_line, is_of_several, is_on_line}
-use Rattle.bcheck.specs.UndefinedNames.{IsAtName, beginnings, ends_name, name_in, told_subjects}
+use Rattle.bcheck.specs.UndefinedNames.{IsAtName, beginnings, ends_name, name_in, told_subjects, Tells}
 use Rattle.bcheck.specs.declared.change.Change.{Change}
 use Rattle.bcheck.specs.declared.verdict.Judgement.{Judgement}
 use Rattle.bcheck.specs.declared.mention.Subject.{Subject}
@@ -26,7 +25,7 @@ use Rattle.bcheck.specs.declared.mention.Subject.TheVariants as subject
 use Rattle.blang.specs.declared.code.Definition.{Definition}
 use Rattle.bword.specs.Words.{same_name}
 use Rattle.std.specs.Global.{Vec}
-use Rattle.std.specs.List.{All, list_any}
+use Rattle.std.specs.List.{All, list_any, flat_map}
 use Rattle.blex.specs.declared.scanner.PlacedPiece.{PlacedPiece}
 use Rattle.bcheck.specs.Tokens.{has_token_on, is_on, pieces_of}
 use Rattle.bplaces.specs.Units.{first_unit, unit_column, units_after}
@@ -44,13 +43,9 @@ use Rattle.bcheck.specs.declared.finding.Severity.{Severity}
 use Rattle.bcheck.specs.declared.form.FindingForm.{FindingForm}
 use Rattle.bcheck.specs.declared.places.Milestone.{Milestone}
 use Rattle.bcheck.specs.declared.undefined.UndefinedName.{UndefinedName}
-use Rattle.bcheck.specs.Checks.{IsFurther, IsOfSection, IsOfSections, TellsSection}
 use Rattle.bcheck.specs.Sections.{Section, StopsAlone}
-use Rattle.bcheck.specs.UndefinedNames.{Tells}
 use Rattle.bcheck.specs.declared.finding.TheConstants.{MOST_FINDINGS}
 use Rattle.bcheck.specs.declared.told.Setting.{Setting}
-use Rattle.bsources.specs.Files.{files_shown}
-use Rattle.std.specs.List.{flat_map}
 use Rattle.bcheck.specs.declared.verdict.Verdict.{Verdict}
 use Rattle.bcheck.specs.declared.verdict.Verdict.TheVariants as verdict
 

@@ -1,5 +1,5 @@
 //! Where a name stands in the source.
-ghost use Rattle.std.specs.Prelude.{◌≡◌, ◌<◌, ℕ, MatchOption, drop, false, length, slice_index_or, take, true};
+ghost use Rattle.std.specs.Prelude.{◌≡◌, ◌<◌, MatchOption, drop, slice_index_or, take, true};
 ghost use Rattle.bcheck.specs.UndefinedNames.{IsAtName, IsNowhere, is_word_at};
 
 use crate::finding::Place;

@@ -7,7 +7,7 @@ use Rattle.bcheck.specs.Checks.{goes_on, is_in_line}
 use Rattle.bcheck.proofs.AddedFindings.{less}
 use Rattle.bcheck.proofs.EditSteps.{here_is, makes_is, same_change, same_line, same_words, split_is, unit_end_is, unit_is}
 use Rattle.bcheck.proofs.OnLine.{both}
-use Rattle.bcheck.proofs.PlaceSteps.{several_is}
+use Rattle.bcheck.proofs.TokenPlaces.{several_is}
 use Rattle.bcheck.proofs.edit.edit_of.Goals as goal
 
 pub returns-clause-edit : goal.returns-clause-edit

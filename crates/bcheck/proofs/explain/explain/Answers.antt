@@ -1,9 +1,8 @@
 use Rattle.std.proofs.Common.{[], ◌≡◌, ◌∙◌, ◌++◌, ap, arith, length, refl, rules, subst, sym}
 use Rattle.std.proofs.lemmas.List.Elements.{All-nil}
-use Rattle.std.specs.List.{flat_map}
+use Rattle.std.specs.List.{flat_map, All}
 use Rattle.bsources.specs.Files.{files_shown}
 use Rattle.bcheck.specs.Checks.{finding_text, status_told}
-use Rattle.std.specs.List.{All}
 use Rattle.bcheck.specs.Findings.{AreWarned, AreWhole, IsTried, matter_code}
 use Rattle.bcheck.proofs.AddedFindings.{MendedIn, Reasoned, all_findings, finding_more}
 use Rattle.bcheck.proofs.Reasons.{item_reason}

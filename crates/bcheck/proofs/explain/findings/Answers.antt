@@ -2,8 +2,7 @@ use Rattle.std.proofs.Common.{ap, length, subst, vec_items}
 use Rattle.bcheck.specs.Checks.{Judged}
 use Rattle.btools.proofs.Reading.{if_ok}
 use Rattle.bcheck.proofs.CheckSteps.{fault_line}
-use Rattle.bcheck.proofs.CodesTold.{not_done, not_loaded}
-use Rattle.bcheck.proofs.Reasons.{clean_reasons, clean_whole, every_ok, faulty_reason, faulty_whole, one_reasoned}
+use Rattle.bcheck.proofs.Reasons.{not_done, not_loaded, clean_reasons, clean_whole, every_ok, faulty_reason, faulty_whole, one_reasoned}
 use Rattle.bcheck.proofs.explain.findings.Goals as goal
 
 pub fault_of-requires : goal.fault_of-requires

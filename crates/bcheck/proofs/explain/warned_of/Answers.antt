@@ -1,7 +1,7 @@
 use Rattle.std.proofs.Common.{◌∙◌, ap, map}
 use Rattle.std.proofs.lemmas.List.{take_all}
 use Rattle.bcheck.specs.RuleWarnings.{caution_at}
-use Rattle.bcheck.proofs.CodesTold.{caution_more}
+use Rattle.bcheck.proofs.Reasons.{caution_more}
 use Rattle.bcheck.proofs.explain.warned_of.Goals as goal
 
 pub loop-caution-preserved : goal.loop-caution-preserved

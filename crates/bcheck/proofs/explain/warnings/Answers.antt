@@ -1,7 +1,7 @@
 use Rattle.std.proofs.Common.{vec_items}
 use Rattle.bsources.specs.Files.{files_shown}
 use Rattle.btools.proofs.Reading.{if_ok}
-use Rattle.bcheck.proofs.CodesTold.{all_warned}
+use Rattle.bcheck.proofs.Reasons.{all_warned}
 use Rattle.bcheck.proofs.explain.warnings.Goals as goal
 
 pub returns : goal.returns

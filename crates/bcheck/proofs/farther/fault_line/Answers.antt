@@ -1,7 +1,7 @@
 use Rattle.std.proofs.Common.{◌∙◌, ◌≡◌, subst}
 use Rattle.bcheck.specs.Checks.{tokens_in, with_newline}
 use Rattle.bcheck.specs.Findings.{IsStopOf}
-use Rattle.bcheck.proofs.SameTokens.{stops_apart}
+use Rattle.bcheck.proofs.MendSteps.{stops_apart}
 use Rattle.bcheck.proofs.farther.fault_line.Goals as goal
 
 pub returns : goal.returns

@@ -1,4 +1,4 @@
-use Rattle.std.proofs.Common.{◌∙◌, ◌<◌, ◌≤◌, IfSome, ap, rules, subst, sym}
+use Rattle.std.proofs.Common.{◌∙◌, ◌<◌, ◌≤◌, IfSome, rules, subst, sym}
 use Rattle.bcheck.specs.Findings.{StopsApart}
 use Rattle.bcheck.proofs.MendSteps.{farther, less, parted}
 use Rattle.bcheck.proofs.farther.goes_farther.Goals as goal

@@ -4,7 +4,7 @@ use Rattle.std.proofs.lemmas.Bool.Decides.{nat_tests}
 use Rattle.std.proofs.lemmas.List.{nil_from_length}
 use Rattle.std.specs.Cmp.Lexicographic.{bytes_decides}
 use Rattle.blex.proofs.PlaceSteps.{found_in}
-use Rattle.bcheck.proofs.SameTokens.{Agrees, agrees_all, agrees_more, agrees_wrong, text_of}
+use Rattle.bcheck.proofs.MendSteps.{Agrees, agrees_all, agrees_more, agrees_wrong, text_of}
 use Rattle.bcheck.proofs.farther.has_same_tokens.Goals as goal
 
 pub returns-then-is_same_wrong : goal.returns-then-is_same_wrong

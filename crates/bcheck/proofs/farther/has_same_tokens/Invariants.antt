@@ -1,5 +1,5 @@
 use Rattle.std.proofs.Common.{◌-◌, ◌≡◌, ◌≤◌, length}
-use Rattle.bcheck.proofs.SameTokens.{Agrees}
+use Rattle.bcheck.proofs.MendSteps.{Agrees}
 use Rattle.bcheck.proofs.farther.has_same_tokens.Given as goal
 
 abbrev pub invariant-loop-scanner : goal.invariant-loop-scanner

@@ -1,7 +1,6 @@
 use Rattle.std.proofs.Common.{[], ◌∷◌, ◌∙◌, ◌+◌, ◌++◌, ap, arith, drop, refl, subst, sym, vec_items}
 use Rattle.std.proofs.lemmas.List.{drop_all}
-use Rattle.bcheck.proofs.MentionLoops.{here}
-use Rattle.bcheck.proofs.MentionSteps.{MeetsSoFar, all_met, meets_new, passes_known, passes_library}
+use Rattle.bcheck.proofs.MentionSteps.{here, MeetsSoFar, all_met, meets_new, passes_known, passes_library}
 use Rattle.bcheck.proofs.mention.meet.Goals as goal
 use Rattle.bcheck.proofs.mention.meet.Goals.{then-not-is_library+in_ok-put+then-branch+in_ok-push, else-not-is_library, else-not-is_library-via-then-not-is_library+in_ok-put+else-branch, else-not-is_library-via-else-not-is_library}
 

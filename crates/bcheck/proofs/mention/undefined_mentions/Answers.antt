@@ -1,7 +1,7 @@
 use Rattle.std.proofs.Common.{◌≡◌, ◌∙◌, ◌++◌, ap, arith, map, vec_items}
 use Rattle.bcheck.specs.UndefinedNames.{heading_of, subject_of, told_of}
 use Rattle.bcheck.specs.Mentions.{subjects}
-use Rattle.bcheck.proofs.MentionLoops.{all_found, found_more}
+use Rattle.bcheck.proofs.MentionSteps.{all_found, found_more}
 use Rattle.bcheck.proofs.mention.undefined_mentions.Goals as goal
 
 pub loop-index-preserved : goal.loop-index-preserved

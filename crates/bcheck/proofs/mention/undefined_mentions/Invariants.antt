@@ -1,5 +1,5 @@
 use Rattle.std.proofs.Common.{vec_items}
-use Rattle.bcheck.proofs.MentionLoops.{FoundSoFar}
+use Rattle.bcheck.proofs.MentionSteps.{FoundSoFar}
 use Rattle.bcheck.proofs.mention.undefined_mentions.Given as goal
 
 abbrev pub invariant-loop-index : goal.invariant-loop-index

@@ -1,10 +1,8 @@
-use Rattle.std.proofs.Common.{◌∙◌, refl, subst, sym}
+use Rattle.std.proofs.Common.{◌∙◌, refl, subst, sym, None}
 use Rattle.btools.proofs.Reading.{if_ok}
-use Rattle.bcheck.specs.declared.verdict.Verdict.TheVariants as verdict
 use Rattle.bcheck.proofs.MendSteps.{StopIs}
 use Rattle.bcheck.proofs.BoundarySteps.{no_boundaries, on_line}
 use Rattle.bcheck.proofs.missing_semicolon.fault_boundaries.Goals as goal
-use Rattle.std.proofs.Common.{None}
 
 pub returns-in-Faulty : goal.returns-in-Faulty
 returns-in-Faulty c =

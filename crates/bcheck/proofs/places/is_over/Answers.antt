@@ -1,6 +1,6 @@
 use Rattle.std.proofs.Common.{Some, ap}
 use Rattle.bword.specs.ByteEnds.{Unread, incoming_of}
-use Rattle.bcheck.proofs.PlaceSteps.{over_here}
+use Rattle.bcheck.proofs.TokenPlaces.{over_here}
 use Rattle.bcheck.proofs.places.is_over.Goals as goal
 
 pub returns-in-End : goal.returns-in-End

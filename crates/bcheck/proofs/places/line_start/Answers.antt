@@ -1,5 +1,5 @@
 use Rattle.std.proofs.Common.{◌<◌, arith}
-use Rattle.bcheck.proofs.PlaceSteps.{line_near}
+use Rattle.bcheck.proofs.TokenPlaces.{line_near}
 use Rattle.bplaces.proofs.ColumnSteps.{line_more}
 use Rattle.bcheck.proofs.places.line_start.Goals as goal
 

@@ -1,4 +1,4 @@
-use Rattle.bcheck.proofs.PlaceSteps.{stands_there}
+use Rattle.bcheck.proofs.TokenPlaces.{stands_there}
 use Rattle.bcheck.proofs.places.place_on.Goals as goal
 
 pub returns-in_default-clause-stands : goal.returns-in_default-clause-stands

@@ -1,5 +1,5 @@
 use Rattle.std.proofs.Common.{◌<◌, get_or, length, subst, sym}
-use Rattle.bcheck.proofs.PlaceSteps.{below_min}
+use Rattle.bcheck.proofs.TokenPlaces.{below_min}
 use Rattle.bplaces.proofs.ColumnSteps.{column_more, column_some, line_more}
 use Rattle.bplaces.proofs.UnitSteps.{units_more}
 use Rattle.bplaces.specs.Units.{first_unit}

@@ -1,7 +1,7 @@
 use Rattle.std.proofs.Common.{◌∙◌, ap, drop, sym, take}
 use Rattle.std.proofs.lemmas.List.{take-append-drop}
 use Rattle.bsources.specs.Files.{files_shown, own_line}
-use Rattle.bcheck.proofs.PlaceSteps.{several_is}
+use Rattle.bcheck.proofs.TokenPlaces.{several_is}
 use Rattle.bplaces.specs.declared.units.UnitPlace.{UnitPlace}
 use Rattle.bcheck.proofs.places.spot_of.Goals as goal
 

@@ -1,4 +1,4 @@
-use Rattle.std.proofs.Common.{◌≡◌, ◌∙◌, ℕ, List, [], Bool, true, false, not, ap, arith, refl, subst, sym, vec_items}
+use Rattle.std.proofs.Common.{◌≡◌, ◌∙◌, ℕ, List, [], Bool, true, false, not, ap, arith, refl, sym, vec_items}
 use Rattle.std.specs.List.{list_any}
 use Rattle.bgrammar.proofs.GoesLaws.{each_source_comes}
 use Rattle.bsources.specs.Files.{files_shown}

@@ -1,6 +1,6 @@
 use Rattle.std.proofs.Common.{◌∙◌, subst, sym}
 use Rattle.blex.proofs.PlaceSteps.{found_in}
-use Rattle.bcheck.proofs.RightPieces.{Reads, reads_end, reads_more}
+use Rattle.bcheck.proofs.SpareSteps.{Reads, reads_end, reads_more}
 use Rattle.bcheck.proofs.spares.pieces.Goals as goal
 
 pub returns-then-is_end : goal.returns-then-is_end

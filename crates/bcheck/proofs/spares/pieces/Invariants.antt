@@ -1,5 +1,5 @@
 use Rattle.std.proofs.Common.{◌-◌, ◌≡◌, ◌≤◌, length}
-use Rattle.bcheck.proofs.RightPieces.{Reads}
+use Rattle.bcheck.proofs.SpareSteps.{Reads}
 use Rattle.bcheck.proofs.spares.pieces.Given as goal
 
 abbrev pub invariant-loop-scanner : goal.invariant-loop-scanner

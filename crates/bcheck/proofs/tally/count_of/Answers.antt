@@ -1,6 +1,6 @@
 use Rattle.bsources.specs.Files.{files_shown}
 use Rattle.btools.proofs.Reading.{if_ok}
-use Rattle.bcheck.proofs.TallySteps.{clean_status, faulty_tally, unloaded_status}
+use Rattle.bcheck.proofs.RightSteps.{clean_status, faulty_tally, unloaded_status}
 use Rattle.bcheck.proofs.tally.count_of.Goals as goal
 
 pub returns-in-Faulty : goal.returns-in-Faulty

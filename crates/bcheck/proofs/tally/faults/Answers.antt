@@ -1,5 +1,5 @@
 use Rattle.std.proofs.Common.{arith, vec_items}
-use Rattle.bcheck.proofs.TallySteps.{count_from, few_after}
+use Rattle.bcheck.proofs.RightSteps.{count_from}
 use Rattle.bcheck.proofs.tally.faults.Goals as goal
 
 pub returns : goal.returns

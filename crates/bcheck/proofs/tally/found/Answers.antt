@@ -1,6 +1,6 @@
 use Rattle.std.proofs.Common.{arith, vec_items}
 use Rattle.bsources.specs.Files.{files_shown}
-use Rattle.bcheck.proofs.TallySteps.{found_tally}
+use Rattle.bcheck.proofs.RightSteps.{found_tally}
 use Rattle.bcheck.proofs.tally.found.Goals as goal
 
 pub returns : goal.returns

@@ -1,5 +1,5 @@
 use Rattle.std.proofs.Common.{vec_items}
-use Rattle.bcheck.proofs.MentionLoops.{told_more}
+use Rattle.bcheck.proofs.MentionSteps.{told_more}
 use Rattle.bcheck.proofs.undefined.findings_on.Goals as goal
 
 pub loop-mention-preserved : goal.loop-mention-preserved
