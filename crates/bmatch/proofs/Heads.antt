@@ -1,6 +1,6 @@
 -- Steps that ask for another head fit nothing.
-use Rattle.std.proofs.Common.{◌≡◌, ◌∙◌, ℕ, zero, suc, ◌+◌, Bool, true, false, List, [], ◌∷◌, ◌++◌, None, Option, Some, ap, append-nil, nat_lt, refl, sym}
-use Rattle.std.specs.Prelude.{if◌then◌else◌, is_some, map}
+use Rattle.std.proofs.Common.{◌≡◌, ◌∙◌, ℕ, zero, suc, ◌+◌, Bool, true, false, List, [], ◌∷◌, ◌++◌, None, ap, append-nil, nat_lt, refl, sym}
+use Rattle.std.specs.Prelude.{if◌then◌else◌, map}
 use Rattle.std.proofs.lemmas.Bool.{and_right, cond-false, or_parts}
 use Rattle.std.specs.List.{flat_map}
 use Rattle.bmatch.specs.declared.binds.Binds.{Binds}
@@ -16,19 +16,14 @@ use Rattle.bmatch.specs.declared.pattern.Step.{Step}
 use Rattle.bmatch.specs.declared.pattern.Step.TheVariants as step
 use Rattle.bmatch.specs.declared.pattern.TheConstants.{ROOT}
 use Rattle.bmatch.specs.declared.tree.Tree.{Tree}
-use Rattle.bmatch.specs.Fits.{either_way, fits_in, go_in, has_sides, inner_of, kind_for, may_begin, seen_at, sides_of, start_of}
+use Rattle.bmatch.specs.Fits.{either_way, fits_in, go_in, has_sides, inner_of, kind_for, may_begin, seen_at, sides_of}
 use Rattle.bmatch.specs.Binds.{nothing_bound, with_hole, with_told}
 use Rattle.bmatch.specs.Holds.{fits_at, holds_in, is_within, some_at, steps_at}
 use Rattle.bmatch.specs.Notices.{notice_of, root_notices, sight_of, site_of}
 use Rattle.bmatch.specs.Trees.{branch_at}
 use Rattle.std.specs.Prelude.{drop}
 
-no_leaf : (any : Bool) (c : Option Binds) → is_some c ≡ false → (if any then c else None) ≡ None
-no_leaf true None h = refl
-no_leaf false None h = refl
-no_leaf any (Some x) h = absurd cc
-
-pub no_head : (s : Sight) (n : ℕ) (is : List Step) (begin end : ℕ) (rows : List Span) (b : Binds) → may_begin s n is end b ≡ false → fits_in s n is begin end rows b ≡ []
+pub no_head : (s : Sight) (n : ℕ) (is : List Step) (begin end : ℕ) (rows : List Span) (b : Binds) → may_begin s n is end ≡ false → fits_in s n is begin end rows b ≡ []
 no_head s n [] begin end rows b h = refl
 no_head s (suc n) (i ∷ is) begin end rows b h = no_head s n is begin end rows b h
 no_head s zero (step.Tree k ∷ is) begin end rows b h =
@@ -46,12 +41,11 @@ no_head s zero (step.Sides k last told ∷ is) begin end rows b h =
     let go = λ (x : Rows). fits_in s zero is x.one.begin x.one.end (x.other ∷ way.before ∷ rows) (with_told b told way.token) in
     ap (λ x. go_in x go ++ go_in way.exchanged go) plain ∙ ap (λ x. go_in x go) exchanged
 no_head s zero (step.Either n ∷ is) begin end rows b h =
-    let hs = or_parts (may_begin s zero is end b) (may_begin s n is end b) h in
+    let hs = or_parts (may_begin s zero is end) (may_begin s n is end) h in
     ap (λ bs. bs ++ fits_in s n is begin end rows b) (no_head s zero is begin end rows b hs.0) ∙ no_head s n is begin end rows b hs.1
 no_head s zero (step.Jump n ∷ is) begin end rows b h = no_head s n is begin end rows b h
 no_head s zero (step.Done ∷ is) begin end rows b h = absurd cc
-no_head s zero (step.Leaf l ∷ is) begin end rows b h =
-    ap (λ c. go_in c (fits_in s zero is begin (start_of s.tree.rows.now end) rows)) (no_leaf (nat_lt begin end) _ h)
+no_head s zero (step.Leaf l ∷ is) begin end rows b h = absurd cc
 no_head s zero (step.Told t ∷ is) begin end rows b h = absurd cc
 no_head s zero (step.Dots ∷ is) begin end rows b h = absurd cc
 
@@ -59,7 +53,7 @@ none_either : (b : Bool) (bs : List Binds) → bs ≡ [] → (if b then bs else 
 none_either true bs e = e
 none_either false bs e = refl
 
-pub nothing_found : (tree : Tree) (t : RuleTable) (r : Rule) (function : Span) (root : ℕ) (found : List Notice) → may_begin (sight_of tree t r) 0 (drop r.pattern t.steps.now) (root + 1) (with_hole nothing_bound ROOT root) ≡ false
+pub nothing_found : (tree : Tree) (t : RuleTable) (r : Rule) (function : Span) (root : ℕ) (found : List Notice) → may_begin (sight_of tree t r) 0 (drop r.pattern t.steps.now) (root + 1) ≡ false
     → found ≡ found ++ root_notices tree t r function root
 nothing_found tree t r function root found h =
     let b = with_hole nothing_bound ROOT root in
@@ -67,7 +61,7 @@ nothing_found tree t r function root found h =
     let none : fits_at (sight_of tree t r) is root b ≡ [] = none_either _ _ (no_head (sight_of tree t r) 0 is _ (root + 1) [] b h) in
     sym (append-nil found) ∙ ap (λ ways. found ++ map (notice_of tree r) (flat_map (holds_in (site_of tree t r function) 0 (drop r.condition t.claims.now)) ways)) (sym none)
 
-pub nothing_sought : (s : Site) (sought : Sought) (b : Binds) (index : ℕ) (found : List Binds) → may_begin s.sight 0 (steps_at s.sight sought.pattern) (index + 1) (with_hole b sought.hole index) ≡ false → found ≡ found ++ some_at s sought b index
+pub nothing_sought : (s : Site) (sought : Sought) (b : Binds) (index : ℕ) (found : List Binds) → may_begin s.sight 0 (steps_at s.sight sought.pattern) (index + 1) ≡ false → found ≡ found ++ some_at s sought b index
 nothing_sought s sought b index found h =
     let c = with_hole b sought.hole index in
     let is = steps_at s.sight sought.pattern in

@@ -24,21 +24,21 @@ begins_with : {A : Type 0} (xs : List A) (d y : A) → 1 ≤ length xs → get_o
 begins_with [] d y h e = absurd (omega (arith, h))
 begins_with (x ∷ xs) d y h e = ap (λ z. z ∷ xs) e ∙ ap (λ zs. y ∷ zs) (sym (take-length xs) ∙ ap (λ n. take n xs) (omega arith))
 
-may_begin_dropped : (s : Sight) (n : ℕ) (is : List Step) (end : ℕ) (b : Binds) → may_begin s n is end b ≡ may_begin s 0 (drop n is) end b
-may_begin_dropped s zero [] end b = refl
-may_begin_dropped s zero (i ∷ is) end b = refl
-may_begin_dropped s (suc n) [] end b = refl
-may_begin_dropped s (suc n) (i ∷ is) end b = may_begin_dropped s n is end b
+may_begin_dropped : (s : Sight) (n : ℕ) (is : List Step) (end : ℕ) → may_begin s n is end ≡ may_begin s 0 (drop n is) end
+may_begin_dropped s zero [] end = refl
+may_begin_dropped s zero (i ∷ is) end = refl
+may_begin_dropped s (suc n) [] end = refl
+may_begin_dropped s (suc n) (i ∷ is) end = may_begin_dropped s n is end
 
-pub begins_after_jump : (s : Sight) (is : List Step) (i : Step) (n end : ℕ) (b : Binds) (result : Bool) → 1 ≤ length is → get_or is 0 i ≡ step.Jump n
-    → result ≡ may_begin s 0 (drop n (others is)) end b → result ≡ may_begin s 0 is end b
-begins_after_jump s is i n end b result h e r =
-    r ∙ (sym (may_begin_dropped s n (others is) end b) ∙ ap (λ js. may_begin s 0 js end b) (sym (begins_with is i (step.Jump n) h e)))
+pub begins_after_jump : (s : Sight) (is : List Step) (i : Step) (n end : ℕ) (result : Bool) → 1 ≤ length is → get_or is 0 i ≡ step.Jump n
+    → result ≡ may_begin s 0 (drop n (others is)) end → result ≡ may_begin s 0 is end
+begins_after_jump s is i n end result h e r =
+    r ∙ (sym (may_begin_dropped s n (others is) end) ∙ ap (λ js. may_begin s 0 js end) (sym (begins_with is i (step.Jump n) h e)))
 
-pub begins_by_other : (s : Sight) (is : List Step) (i : Step) (n end : ℕ) (b : Binds) (one result : Bool) → 1 ≤ length is → get_or is 0 i ≡ step.Either n
-    → one ≡ may_begin s 0 (others is) end b → one ≡ false → result ≡ may_begin s 0 (drop n (others is)) end b → result ≡ may_begin s 0 is end b
-begins_by_other s is i n end b one result h e o f r =
-    r ∙ (sym (may_begin_dropped s n (others is) end b) ∙ (ap (λ c. c || may_begin s n (others is) end b) (sym f ∙ o) ∙ ap (λ js. may_begin s 0 js end b) (sym (begins_with is i (step.Either n) h e))))
+pub begins_by_other : (s : Sight) (is : List Step) (i : Step) (n end : ℕ) (one result : Bool) → 1 ≤ length is → get_or is 0 i ≡ step.Either n
+    → one ≡ may_begin s 0 (others is) end → one ≡ false → result ≡ may_begin s 0 (drop n (others is)) end → result ≡ may_begin s 0 is end
+begins_by_other s is i n end one result h e o f r =
+    r ∙ (sym (may_begin_dropped s n (others is) end) ∙ (ap (λ b. b || may_begin s n (others is) end) (sym f ∙ o) ∙ ap (λ js. may_begin s 0 js end) (sym (begins_with is i (step.Either n) h e))))
 
 fits_dropped : (s : Sight) (n : ℕ) (is : List Step) (begin end : ℕ) (rows : List Span) (b : Binds) → fits_in s n is begin end rows b ≡ fits_in s 0 (drop n is) begin end rows b
 fits_dropped s zero [] begin end rows b = refl

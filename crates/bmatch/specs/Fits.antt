@@ -225,19 +225,19 @@ leaf_binds tree (leaf.Change hole) index b = if changes_hole tree (hole_of b hol
 leaf_binds tree (leaf.Hole hole sort) index b =
     if is_sort tree (branch_at tree.rows.now index) sort then with_same tree b hole index else None
 
--- Steps whose first one asks for another kind or leaf than the last branch that ends here fit nothing there.
-abbrev pub may_begin : Sight → (passed : ℕ) → List Step → (end : ℕ) → Binds → Bool
-may_begin s n [] end b = false
-may_begin s (suc n) (i ∷ is) end b = may_begin s n is end b
-may_begin s zero (step.Tree k ∷ is) end b = is_seen s k k end
-may_begin s zero (step.Range k last ∷ is) end b = is_seen s k last end
-may_begin s zero (step.Sides k last told ∷ is) end b = sees_sides s k last end
-may_begin s zero (step.Leaf l ∷ is) end b = is_some (leaf_binds s.tree l (seen_at s false end) b)
-may_begin s zero (step.Either n ∷ is) end b = may_begin s zero is end b || may_begin s n is end b
-may_begin s zero (step.Jump n ∷ is) end b = may_begin s n is end b
-may_begin s zero (step.Done ∷ is) end b = true
-may_begin s zero (step.Told t ∷ is) end b = true
-may_begin s zero (step.Dots ∷ is) end b = true
+-- Steps whose first one asks for another kind than the last branch that ends here fit nothing there.
+abbrev pub may_begin : Sight → (passed : ℕ) → List Step → (end : ℕ) → Bool
+may_begin s n [] end = false
+may_begin s (suc n) (i ∷ is) end = may_begin s n is end
+may_begin s zero (step.Tree k ∷ is) end = is_seen s k k end
+may_begin s zero (step.Range k last ∷ is) end = is_seen s k last end
+may_begin s zero (step.Sides k last told ∷ is) end = sees_sides s k last end
+may_begin s zero (step.Leaf l ∷ is) end = true
+may_begin s zero (step.Either n ∷ is) end = may_begin s zero is end || may_begin s n is end
+may_begin s zero (step.Jump n ∷ is) end = may_begin s n is end
+may_begin s zero (step.Done ∷ is) end = true
+may_begin s zero (step.Told t ∷ is) end = true
+may_begin s zero (step.Dots ∷ is) end = true
 
 -- what holes stand for where the last branch of a row is this
 abbrev pub with_leaf : Sight → Leaf → (begin end : ℕ) → Binds → Option Binds

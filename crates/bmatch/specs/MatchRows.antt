@@ -185,7 +185,7 @@ ranges_fit : map (λ (pair : BinOp × BinOp). at true (in_range pair.0 pair.1) 1
 ranges_fit = refl
 
 -- the same by the heads of steps; and from the first operator to the loop what is between: loop, +, block, definition
-ranges_begin : map (λ (pair : BinOp × BinOp). may_begin (sight true) 0 (in_range pair.0 pair.1) 17 nothing_bound)
+ranges_begin : map (λ (pair : BinOp × BinOp). may_begin (sight true) 0 (in_range pair.0 pair.1) 17)
     ((op.Add, op.Add) ∷ (op.Add, op.Rem) ∷ (op.Sub, op.Add) ∷ (op.Sub, op.Rem) ∷ (op.Shr, op.Sub) ∷ (op.Rem, op.Div)
     ∷ (op.Rem, op.Sub) ∷ [])
     ≡ true ∷ true ∷ true ∷ true ∷ false ∷ false ∷ false ∷ []
@@ -200,14 +200,8 @@ sides_fit : map (λ (loose : Bool). at loose sum_in_sides 16) (true ∷ false �
     ≡ ((Some 14, Some 15, Some 21) ∷ (Some 15, Some 14, Some 21) ∷ []) ∷ ((Some 14, Some 15, Some 21) ∷ []) ∷ []
 sides_fit = refl
 
-sides_begin : map (λ end. may_begin (sight true) 0 sum_in_sides end nothing_bound) (16 ∷ 17 ∷ 18 ∷ [])
-    ≡ false ∷ true ∷ false ∷ []
+sides_begin : map (may_begin (sight true) 0 sum_in_sides) (16 ∷ 17 ∷ 18 ∷ []) ≡ false ∷ true ∷ false ∷ []
 sides_begin = refl
-
--- x and 1 where the hole stands for another x
-leaves_begin : map (λ end. may_begin (sight true) 0 (hole 0 sort.Any ∷ []) end (with_hole nothing_bound 0 13))
-    (15 ∷ 16 ∷ []) ≡ true ∷ false ∷ []
-leaves_begin = refl
 
 -- < and > change places, and <= and >=
 mirrored_operators : map (λ o. kind_number (mirrored (kind.Node (node.Binary o)))) operators

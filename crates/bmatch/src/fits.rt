@@ -1,6 +1,6 @@
 //! Whether steps of a pattern fit a row of branches.
 ghost use Rattle.std.specs.List.{flat_map};
-ghost use Rattle.std.specs.Prelude.{◌≡◌, ◌∷◌, ◌++◌, IfOk, is_some, take};
+ghost use Rattle.std.specs.Prelude.{◌≡◌, ◌∷◌, ◌++◌, IfOk, take};
 ghost use Rattle.bmatch.specs.Fits.{either_way, go_in, has_sides, index_for, inner_of, kind_for, kind_within, negated, other_kind};
 ghost use Rattle.bmatch.specs.Fits.{mirrored, sees_sides, sides_of};
 ghost use Rattle.bmatch.specs.Fits.{changes_hole, ends_of, fits_in, is_grouped, is_name_of, is_named, is_number, is_sort, is_word};
@@ -179,8 +179,8 @@ fn fits_rows(
 }
 
 /// Whether steps may fit the last branch that ends here, by the first of them.
-pub(crate) fn may_begin(sight: &Sight<'_>, steps: &[Step], end: usize, binds: &Binds) -> bool
-    ensures { result ≡ may_begin sight.now 0 steps.now end binds.now }
+pub(crate) fn may_begin(sight: &Sight<'_>, steps: &[Step], end: usize) -> bool
+    ensures { result ≡ may_begin sight.now 0 steps.now end }
 {
     let [step, more @ ..] = steps else {
         return false;
@@ -189,31 +189,11 @@ pub(crate) fn may_begin(sight: &Sight<'_>, steps: &[Step], end: usize, binds: &B
         Step::Tree(kind) => is_seen(sight, kind, kind, end),
         Step::Range(first, last) => is_seen(sight, first, last, end),
         Step::Sides(first, last, _) => sees_sides(sight, first, last, end),
-        Step::Leaf(leaf) => is_leaf(&sight.tree, leaf, seen_at(sight, false, end), binds),
         Step::Either(count) => {
-            may_begin(sight, more, end, binds)
-                || may_begin(sight, steps_from(more, count), end, binds)
+            may_begin(sight, more, end) || may_begin(sight, steps_from(more, count), end)
         }
-        Step::Jump(count) => may_begin(sight, steps_from(more, count), end, binds),
-        Step::Done | Step::Told(_) | Step::Dots => true,
-    }
-}
-
-// Whether a branch is this, with what holes stand for.
-fn is_leaf(tree: &Tree<'_>, leaf: Leaf, index: usize, binds: &Binds) -> bool
-    ensures { result ≡ is_some (leaf_binds tree.now leaf index binds.now) }
-{
-    let branch = branch_at(tree.rows, index);
-    match leaf {
-        Leaf::Name(bytes, len) if is_name_of(tree, branch, name_in(&bytes, len)) => true,
-        Leaf::Value(value) if is_value_of(tree, branch, value) => true,
-        Leaf::Word(word) if is_word_alone(tree, index, word) => true,
-        Leaf::Change(hole) if changes_hole(tree, binds.of(hole), index) => true,
-        Leaf::Hole(hole, sort) if is_sort(tree, branch, sort) => match binds.of(hole) {
-            Some(other) if !is_same(tree, other, index) => false,
-            _ => true,
-        },
-        _ => false,
+        Step::Jump(count) => may_begin(sight, steps_from(more, count), end),
+        Step::Done | Step::Leaf(_) | Step::Told(_) | Step::Dots => true,
     }
 }
 

@@ -285,10 +285,10 @@ fn some_at(
         return Ok(());
     }
     let steps = steps_from(site.sight.steps, sought.pattern);
-    let binds = binds.with(sought.hole, index);
-    if !may_begin(&site.sight, steps, index + 1, &binds) {
+    if !may_begin(&site.sight, steps, index + 1) {
         return Ok(());
     }
+    let binds = binds.with(sought.hole, index);
     fits_at(&site.sight, steps, index, binds, found)
 }
 

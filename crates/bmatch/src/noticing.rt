@@ -137,10 +137,10 @@ fn root_notices(
         is_loose: rule.is_loose,
     };
     let steps = steps_from(table.steps, rule.pattern);
-    let binds = Binds::nothing().with(ROOT, root);
-    if !may_begin(&sight, steps, root + 1, &binds) {
+    if !may_begin(&sight, steps, root + 1) {
         return Ok(());
     }
+    let binds = Binds::nothing().with(ROOT, root);
     let mut ways = Vec::new(alloc);
     fits_at(&sight, steps, root, binds, &mut ways)?;
     if ways.is_empty() {
