@@ -11,7 +11,7 @@ const MANY = 3000;
 
 const text = bytes => new TextDecoder().decode(bytes);
 const pause = milliseconds => new Promise(done => setTimeout(done, milliseconds));
-const ended = (why, parts = {}) => ({status: 0, trap: '', of: '', ...parts, why});
+const ended = (why, parts = {}) => ({status: 0, trap: '', of: '', text: '', at: null, ...parts, why});
 const limit = ended('limit'), wants = ended('wants input'), halted = status => ended('halted', {status});
 
 /** An object with its parts in the order of their names. */
@@ -122,6 +122,23 @@ async function loads({sessions, expect}) {
   const seen = new Set([...calls].map(({name, line, callers}) => `${name} ${line} ${callers}`));
   expect('names and lines', ['main 5 0', 'f 2 1'].every(place => seen.has(place)), true);
   expect('a name', [calls.nameOf(calls.place().function), calls.nameOf(3)], ['main', '']);
+}
+
+/** Ends by a function `raise`: with its text, and the nearest caller that has a line of the source itself. */
+async function raises({sessions, expect}) {
+  const libs = {'at.b': 'at(i)\n  raise("no index", i);', 'raise.b': '\nraise(text, status)\n  exit(status);'};
+  const told = source => {
+    const {why, status, text, at} = sessions.load(source, {libs}).goOn();
+    return [why, status, text, at && [at.name, at.line, at.file, at.fileLine]];
+  };
+  expect('in a file after it', told('main() {\n  at(3);\n}'), ['halted', 3, 'no index', ['main', 2, '', 2]]);
+  expect('in itself', told('main()\n\nraise("", 1);'), ['halted', 1, '', ['main', 3, '', 3]]);
+  expect('nothing raised', told('main()\n  exit(3);'), ['halted', 3, '', null]);
+  const it = sessions.load('main() at(4);', {libs});
+  it.goOn();
+  expect('files of lines', [it.place(), ...it.frames()].map(({line, file, fileLine}) => [line, file, fileLine]),
+    [[6, 'raise.b', 3], [6, 'raise.b', 3], [3, 'at.b', 2], [1, '', 1]]);
+  it.free();
 }
 
 /** Names, by the layout of memory. */
@@ -444,7 +461,7 @@ async function hosts({sessions, host, expect}) {
 }
 
 const PARTS = [
-  hosts, talks, places, copies, loads, symbols, breaks, limits, cuts, refusals, stops, many, memories, lost,
+  hosts, talks, places, copies, loads, raises, symbols, breaks, limits, cuts, refusals, stops, many, memories, lost,
 ];
 
 /** Runs all rows over a module, with the text of lib/host.b, and tells how many there were and what was wrong.

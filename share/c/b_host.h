@@ -91,6 +91,35 @@ static inline uint8_t b_text(struct b_session *session, uint16_t address, char *
     return B_DONE;
 }
 
+/* After b_continue has told B_DONE: whether `raise` of lib/raise.b has halted the run. Copies the text that it was
+ * given, as b_text does, and tells of the nearest caller with a line up to `lines`, so many as the source itself has; its
+ * line is 0 where none has one. B_REFUSED where something else has halted it. */
+static inline uint8_t b_raised(struct b_session *session, uint64_t lines, char *room, size_t size,
+                               struct b_frame *caller) {
+    uint8_t name[9];
+    uint16_t text;
+    size_t number = 0, count = 0;
+    uint8_t status = b_frame(session, 0, caller);
+    if (status == B_DONE)
+        status = b_name_of(session, caller->function, name, sizeof name, &count);
+    if (status == B_FAILED || (status == B_DONE && (count != 5 || memcmp(name, "raise", 5) != 0)))
+        return B_REFUSED;
+    if (status == B_DONE && caller->parameters == 0)
+        return B_REFUSED;
+    if (status == B_DONE)
+        status = b_word(session, (uint16_t)caller->start, &text);
+    if (status == B_DONE)
+        status = b_text(session, text, room, size);
+    while (status == B_DONE) {
+        status = b_frame(session, ++number, caller);
+        if (status == B_DONE && caller->line > 0 && caller->line <= lines)
+            return B_DONE;
+    }
+    if (status == B_REFUSED)
+        status = B_DONE; /* past the last one, which leaves zeros */
+    return status;
+}
+
 /* Stores a string and its end from an address on. */
 static inline uint8_t b_set_text(struct b_session *session, uint16_t address, const char *text) {
     size_t at, size = strlen(text) + 1;

@@ -103,6 +103,43 @@ static char *contents(const char *path) {
     return text;
 }
 
+/* Ends by `raise`, in a file after the source, and by something else. */
+static void raises(void) {
+    static const char after[] = "at(i)\nraise(\"no index\", i);\nraise(text, status)\nexit(status);";
+    static const struct {
+        const char *source;
+        uint8_t told, value;
+        const char *text;
+        long line;
+    } rows[] = {
+        {"main() {\n  at(3);\n}", B_DONE, 3, "no inde", 2},
+        {"main() raise(\"\", 9);", B_DONE, 9, "", 1},
+        {"main() exit(4);", B_REFUSED, 4, "?", -1},
+        {"at2() ;", B_DONE, 5, "no inde", 0},
+    };
+    size_t row;
+    for (row = 0; row < 4; row++) {
+        const char *more = row == 3 ? "main()\nat(5);" : "none() ;";
+        struct b_file files[2] = {{(const uint8_t *)"at.b", 4, (const uint8_t *)after, sizeof after - 1},
+                                  {(const uint8_t *)"m.b", 3, (const uint8_t *)more, strlen(more)}};
+        struct b_session session = B_NO_SESSION;
+        struct b_written written;
+        struct b_frame caller = {0, 0, 0, 0, 0, 0};
+        char room[8] = "?";
+        uint8_t line[100], value = 0;
+        const char *source = rows[row].source;
+        expect("load with files", b_load_with((const uint8_t *)source, strlen(source), files, 2, 1, line, sizeof line,
+                                              &written, &session), B_DONE);
+        expect("start it", b_start(&session, 0, 0), B_DONE);
+        expect("halts", b_continue(&session, 10000, &value), B_DONE);
+        expect("its status", value, rows[row].value);
+        expect("raised", b_raised(&session, row == 0 ? 3 : 1, room, sizeof room, &caller), rows[row].told);
+        expect("its text", strcmp(room, rows[row].text), 0);
+        expect("its caller", rows[row].line < 0 ? -1 : (long)caller.line, rows[row].line);
+        b_free(&session);
+    }
+}
+
 int main(int count, char **words) {
     char *library = contents(count > 1 ? words[1] : "lib/host.b");
     char source[20000], line[200];
@@ -168,6 +205,7 @@ int main(int count, char **words) {
     expect("start another", b_start(&session, 0, 0), B_DONE);
     expect("another vector", b_serve(&session, &server, &own.value), B_NO_HOST);
     b_free(&session);
+    raises();
     free(library);
     printf("try_host: %d rows were tried\n", tried);
     return failures > 0;

@@ -21,7 +21,7 @@ _b() {
         ;;
     --with)
         mapfile -t COMPREPLY < <(
-            compgen -W 'host input numbers print strings test vectors' -- "${COMP_WORDS[COMP_CWORD]}"
+            compgen -W 'host input numbers print raise strings test vectors' -- "${COMP_WORDS[COMP_CWORD]}"
             compgen -f -- "${COMP_WORDS[COMP_CWORD]}"
         )
         return

@@ -346,7 +346,8 @@ class _Symbol(ctypes.Structure):
 class Place(NamedTuple):
     """Where a run stands: its function, by the address of its first string word, the place of its next instruction, how
     many calls are below, and how many steps were made; the line of that instruction, or 0, and the function's name; and
-    the column in that line, in bytes from 1 on, or 0 where no file of lines tells it."""
+    the column in that line, in bytes from 1 on, or 0 where no file of lines tells it. Lines of files that follow a
+    source count on; `file` is the name of the one that has it, or nothing, and `file_line` its line there."""
 
     function: int
     place: int
@@ -355,12 +356,14 @@ class Place(NamedTuple):
     line: int = 0
     name: str = ""
     column: int = 0
+    file: str = ""
+    file_line: int = 0
 
 
 class Frame(NamedTuple):
     """An active call: its function, the place of its next instruction, the address of its frame, where its parameters
     and then its automatic words lie, how many parameters it has; the line and the column of that instruction, or of the
-    call that it has made, or 0; and the function's name."""
+    call that it has made, or 0; and the function's name. `file` and `file_line` are as those of a Place."""
 
     function: int
     place: int
@@ -369,6 +372,8 @@ class Frame(NamedTuple):
     line: int = 0
     column: int = 0
     name: str = ""
+    file: str = ""
+    file_line: int = 0
 
 
 class Symbol(NamedTuple):
@@ -400,12 +405,15 @@ class Symbol(NamedTuple):
 class End(NamedTuple):
     """Why a slice has ended: `halted` with a status, `trapped` with two letters, `limit`, or `wants input`; `stopped`
     before a step at which it was to stop; `serves`, where it waits for a `call`; or `has output` or `too large`, where
-    more is there than the limits allow, which are of `operands` or of `pages`."""
+    more is there than the limits allow, which are of `operands` or of `pages`. Where `raise` of lib/raise.b has halted
+    it, `text` is what that was given, and `at` the nearest caller that has a line of the source itself, if one has."""
 
     why: str
     status: int = 0
     trap: str = ""
     of: str = ""
+    text: bytes = b""
+    at: Optional[Frame] = None
 
 
 _TRAPS = ("", "dz", "fn", "gt", "st", "dp", "bs", "sk")
@@ -574,6 +582,7 @@ class Session:
         self._runs = _Runs()
         self._own = object()
         self._names: Dict[int, str] = {}
+        self._files: List[Tuple[str, int, int]]
         self._ahead = b""
         self._serving: Serving = ({}, None, None)
         self._held_at_most = (operands, pages, output)
@@ -585,8 +594,10 @@ class Session:
         self._program: Tuple[Any, ...]
         if code is None:
             self._program = (_library.b_load_with, *_source(source, libs), _edition(edition))
+            self._files = _lines_of(source, libs or {})
         else:
             self._program = (_library.b_load_code_with, *_bytes(code), *_bytes(lines), *_bytes(names))
+            self._files = [("", 0, _MOST)]
         self._load(*self._program)
         self.start(input)
 
@@ -694,7 +705,7 @@ class Session:
     def _end_of(self, status: int, value: ctypes.c_uint8) -> End:
         """Why a slice has ended, by what a call answers."""
         if status == 0:
-            return End("halted", value.value)
+            return End("halted", value.value, "", "", *self._raised())
         if status == TRAP:
             return End("trapped", trap=_TRAPS[value.value])
         if status == TOO_LARGE:
@@ -866,21 +877,36 @@ class Session:
         place, column = _Place(), ctypes.c_uint64()
         _expect(self._call(_library.b_place, place))
         _expect(self._call(_library.b_column, column))
-        name = self.name_of(place.function)
-        return Place(place.function, place.place, place.callers, place.steps, place.line, name, column.value)
+        name, file = self.name_of(place.function), self._file_of(place.line)
+        return Place(place.function, place.place, place.callers, place.steps, place.line, name, column.value, *file)
 
     def frames(self) -> List[Frame]:
         """The active calls, the running one first: the backtrace. After the end of a run the first one is the call that
         ran before the last step."""
+        return [*self._frames()]
+
+    def _frames(self) -> Iterator[Frame]:
         self._look_for_run()
-        frame, frames = _Frame(), []  # type: _Frame, List[Frame]
-        while True:
-            status = self._call(_library.b_frame, len(frames), frame)
-            if status == REFUSED:
-                return frames
+        frame, number = _Frame(), 0
+        while (status := self._call(_library.b_frame, number, frame)) != REFUSED:
             _expect(status)
-            frames.append(Frame(frame.function, frame.place, frame.start, frame.parameters, frame.line, frame.column,
-                                self.name_of(frame.function)))
+            number += 1
+            yield Frame(frame.function, frame.place, frame.start, frame.parameters, frame.line, frame.column,
+                        self.name_of(frame.function), *self._file_of(frame.line))
+
+    def _file_of(self, line: int) -> Tuple[str, int]:
+        """The file that has a line, and its number there."""
+        file, before, _ = next((it for it in self._files if line <= it[2]), ("", 0, 0))
+        return file, max(0, line - before)
+
+    def _raised(self) -> Tuple[bytes, Optional[Frame]]:
+        """What `raise` was given, if it has halted the run, and where the source itself stands."""
+        frames = self._frames()
+        top = next(frames)
+        if top.name != "raise" or top.parameters == 0:
+            return b"", None
+        own = (it for it in frames if 0 < it.line <= self._files[0][2])
+        return self.text(self.word(top.start)), next(own, None)
 
     def name_of(self, function: int) -> str:
         """The name of the function whose first string word has this address; nothing where none lies there."""
@@ -1012,6 +1038,16 @@ class Session:
         self._look_for_program()
         if not self._runs.has(self._own):
             raise ValueError("this session has no run")
+
+
+def _lines_of(source: Text, libs: Libs) -> List[Tuple[str, int, int]]:
+    """Each file of a source, by its name: how many lines are before it, and up to its last one."""
+    files, before = [], 0  # type: List[Tuple[str, int, int]], int
+    for name, text in [("", source), *libs.items()]:
+        last = before + 1 + _bytes(text)[0].count(b"\n")
+        files.append((_bytes(name)[0].decode("utf-8", "replace"), before, last))
+        before = last
+    return files
 
 
 def _stops(

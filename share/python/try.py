@@ -158,8 +158,37 @@ def sessions():
     yield from ignored()
     yield from stops()
     yield from limits()
+    yield from raised()
     yield from copies()
     yield from copies_at_random()
+
+
+RAISES = pathlib.Path(__file__).resolve().parents[2] / "lib/raise.b"
+
+
+def raised():
+    """Ends by `raise`: with its text, and the nearest caller that has a line of the source itself."""
+    libs = {"at.b": 'at(i)\n  raise("no index", i + 128);\nnone() at(5);', "raise.b": RAISES.read_bytes()}
+
+    def told(source, **more):
+        end = b.Session(source, libs={**libs, **more}).run()
+        place = end.at and (end.at.name, end.at.line, end.at.file, end.at.file_line)
+        return end.why, end.status, end.text, place
+
+    yield told("main() {\n  at(3);\n}"), ("halted", 3, b"no index", ("main", 2, "", 2))
+    yield told('main()\n\nraise("", 1);'), ("halted", 1, b"", ("main", 3, "", 3))
+    yield told("main()\n  f(3);\nf(n)\n  n ? f(n - 1) : at(0);"), ("halted", 0, b"no index", ("f", 4, "", 4))
+    yield told("x 5;", **{"m.b": "main() none();"}), ("halted", 5, b"no index", None)
+    yield told("main()\n  exit(3);"), ("halted", 3, b"", None)
+    it = b.Session("main() none();", libs=libs)
+    yield (it.run().why, it.place().file, it.place().file_line), ("halted", "raise.b", 13)
+    yield [(frame.line, frame.file, frame.file_line) for frame in it.frames()][1:], \
+        [(3, "at.b", 2), (4, "at.b", 3), (1, "", 1)]
+    code = "F main 0 0 0 2 5\nw 26721\nw 1025\nx raise\nv\ns 0\nk 1\nr\nF raise 1 1 0 0 5\nx exit\nv\nc 9\nk 1\nr\nE\n"
+    end = b.Session(code=code).run()
+    yield (end.text, end.at and end.at.name, end.at and end.at.line), (b"ah\1", "main", 7)
+    end = b.Session(code=code, lines="0\n0\n0\n70\n0\n" + "0\n" * 5).run()
+    yield (end.text, end.at and end.at.line, end.at and end.at.file_line), (b"ah\1", 70, 70)
 
 
 def copies():

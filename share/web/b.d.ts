@@ -135,23 +135,29 @@ export class Refused extends Error {
 }
 
 /** Why a slice has ended. `status` is that of a program which has halted, `trap` has the two letters of a trap, and
-    `of` tells what is too large. */
+    `of` tells what is too large. Where `raise` of lib/raise.b has halted it, `text` is what that was given, and `at` the
+    nearest caller that has a line of the source itself, if one has. */
 export interface End {
   why: 'halted' | 'trapped' | 'limit' | 'wants input' | 'stopped' | 'serves' | 'has output' | 'too large';
   status: number;
   trap: string;
   of: '' | 'operands' | 'pages';
+  text: string;
+  at: Frame | null;
 }
 
 /** Where a run stands: its function, by the address of its first string word, and by its name; the place of its next
     instruction, and the line of that, or 0; the column in it, in bytes from 1 on, or 0 where no file of lines tells it;
-    how many calls are below, and how many steps were made. */
+    how many calls are below, and how many steps were made. Lines of files that follow a source count on: `file` is the
+    name of the one that has it, or empty, and `fileLine` its line there. */
 export interface Place {
   function: number;
   name: string;
   place: number;
   line: number;
   column: number;
+  file: string;
+  fileLine: number;
   callers: number;
   steps: number;
 }
@@ -169,7 +175,8 @@ export interface Stops {
 
 /** An active call: its function, by the address of its first string word, and by its name; the place of its next
     instruction; the address of its frame, where its parameters and then its automatic words lie; how many parameters it
-    has; the line and the column of that instruction, or of the call that it has made, or 0. */
+    has; the line and the column of that instruction, or of the call that it has made, or 0. `file` and `fileLine` are
+    as those of a `Place`. */
 export interface Frame {
   function: number;
   name: string;
@@ -178,6 +185,8 @@ export interface Frame {
   parameters: number;
   line: number;
   column: number;
+  file: string;
+  fileLine: number;
 }
 
 /** What a name stands for: a definition, a word of a function's frame, a label or an instruction, which has no name.

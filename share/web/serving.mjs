@@ -65,7 +65,7 @@ export class Serving {
       return await run;
     } catch (error) {
       if (!(error instanceof Waits)) throw error;
-      return {why: 'serves', status: 0, trap: '', of: ''};
+      return {why: 'serves', status: 0, trap: '', of: '', text: '', at: null};
     }
   }
 

@@ -63,6 +63,18 @@ function wordsOf(words) {
   return new Uint8Array(Uint16Array.from(row).buffer);
 }
 
+/** Each file of a source, by its name: how many lines are before it, and up to its last one. */
+function filesOf(source, libs) {
+  let last = 0;
+  return [['', source], ...Object.entries(libs)].map(([file, text]) => {
+    const before = last;
+    last += 1 + bytesOf(text).filter(byte => byte === 10).length;
+    return {file, before, last};
+  });
+}
+
+const OF_CODE = [{file: '', before: 0, last: Infinity}];
+
 const fewer = (one, other) => (one < other ? one : other);
 
 /** Lets the event loop go on: a page is drawn, and what was pressed is heard. */
@@ -122,22 +134,24 @@ export class Sessions {
   load(source, {edition = 1, libs = {}, ...how} = {}) {
     if (edition !== 1 && edition !== 2) throw new RangeError(`edition is ${String(edition)}, and has to be 1 or 2`);
     const texts = [source, ...Object.entries(libs).flat()].map(it => bytesOf(it).slice());
-    return this.begun(['edition', 'libs'], how, () => this.lend(texts, ([at, size, ...files]) => {
+    const load = () => this.lend(texts, ([at, size, ...files]) => {
       const rows = new Uint8Array(BigUint64Array.from(files).buffer), count = BigInt(files.length / 4);
       return this.lend([rows], ([row]) => this.loaded('load_with', [at, size, row, count, edition]));
-    }));
+    });
+    return this.begun(['edition', 'libs'], how, filesOf(source, libs), load);
   }
 
   /** The same for a code text, with an author's files of lines and of names. */
   loadCode(code, {lines = '', names = '', ...how} = {}) {
     const texts = [code, lines, names].map(it => bytesOf(it).slice());
-    return this.begun(['lines', 'names'], how, () => this.lend(texts, words => this.loaded('load_code_with', words)));
+    const load = () => this.lend(texts, words => this.loaded('load_code_with', words));
+    return this.begun(['lines', 'names'], how, OF_CODE, load);
   }
 
-  begun(names, {input = '', limits = {}, ...other}, load) {
+  begun(names, {input = '', limits = {}, ...other}, files, load) {
     only(['input', 'limits', ...names], other);
     limitsOf(limits);
-    const session = new Session(this, load, new Runs(this, load()), {}, limits);
+    const session = new Session(this, {load, files}, new Runs(this, load()), {}, limits);
     try {
       session.start(input);
       return session;
@@ -281,12 +295,12 @@ class Runs {
   }
 }
 
-const END = {why: '', status: 0, trap: '', of: ''};
+const END = {why: '', status: 0, trap: '', of: '', text: '', at: null};
 
 /** A program that stays in memory, and its run, in slices. */
 class Session {
   #sessions;
-  #load;
+  #program; // what loads it, and its files
   #runs;
   #own;
   #limits;
@@ -296,9 +310,9 @@ class Session {
   #serving = null;
   #output;
 
-  constructor(sessions, load, runs, own, limits) {
+  constructor(sessions, program, runs, own, limits) {
     this.#sessions = sessions;
-    this.#load = load;
+    this.#program = program;
     this.#limits = {...limits};
     this.#have(runs, own);
   }
@@ -341,7 +355,7 @@ class Session {
     if (this.#isRunning) throw new Error('this session is running');
     this.#look();
     if (this.#runs.kept.length > 0) {
-      const runs = new Runs(this.#sessions, this.#load());
+      const runs = new Runs(this.#sessions, this.#program.load());
       this.#leave();
       this.#have(runs, {});
     }
@@ -353,7 +367,7 @@ class Session {
   copy() {
     this.#look();
     const own = this.#runs.copy(this.#own);
-    const copy = new Session(this.#sessions, this.#load, this.#runs, own, this.#limits);
+    const copy = new Session(this.#sessions, this.#program, this.#runs, own, this.#limits);
     copy.#names = this.#names;
     copy.#serving = this.#serving?.of(copy) ?? null;
     copy.#output = this.#output;
@@ -384,7 +398,7 @@ class Session {
   /** Why a slice has ended, by what a call answers. */
   #endOf(status) {
     const value = this.#sessions.told.getUint8(0);
-    if (status === DONE) return {...END, why: 'halted', status: value};
+    if (status === DONE) return {...END, why: 'halted', status: value, ...this.#raised()};
     if (status === TRAP) return {...END, why: 'trapped', trap: TRAPS[value]};
     if (status === LARGE) return {...END, why: 'too large', of: OF[value]};
     if (status in WHY) return {...END, why: WHY[status]};
@@ -567,20 +581,37 @@ class Session {
   place() {
     const steps = Number(this.#made()), {told} = this.#sessions, at = place => Number(told.getBigUint64(place, true));
     const is = {function: told.getUint32(0, true), place: at(8), callers: at(16), steps, line: at(32)};
-    return {...is, name: this.nameOf(is.function), column: this.#column()};
+    return {...is, name: this.nameOf(is.function), column: this.#column(), ...this.#fileOf(is.line)};
   }
 
   frames() {
-    const frames = [], own = BigInt(this.#sessions.own);
-    for (;;) {
-      const status = this.#call('frame', BigInt(frames.length), own);
-      if (status === REFUSED) return frames;
+    return [...this.#frames()];
+  }
+
+  *#frames() {
+    for (let number = 0n; ; number++) {
+      const status = this.#call('frame', number, BigInt(this.#sessions.own));
+      if (status === REFUSED) return;
       this.#sessions.expect(status);
       const {told} = this.#sessions, at = place => Number(told.getBigUint64(place, true));
       const is = {function: told.getUint32(0, true), place: at(8), start: told.getUint32(16, true)};
       const rest = {parameters: told.getUint16(20, true), line: at(24), column: at(32)};
-      frames.push({...is, ...rest, name: this.nameOf(is.function)});
+      yield {...is, ...rest, name: this.nameOf(is.function), ...this.#fileOf(rest.line)};
     }
+  }
+
+  /** The file that has a line, and its number there. */
+  #fileOf(line) {
+    const {file, before} = this.#program.files.find(it => line <= it.last);
+    return {file, fileLine: line - before};
+  }
+
+  /** What `raise` was given, if it has halted the run, and where the source itself stands. */
+  #raised() {
+    const [top, ...callers] = this.frames();
+    if (top.name !== 'raise' || top.parameters === 0) return {};
+    const at = callers.find(it => it.line > 0 && it.line <= this.#program.files[0].last) ?? null;
+    return {text: this.text(this.word(top.start)), at};
   }
 
   #column() {

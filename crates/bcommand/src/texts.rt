@@ -151,10 +151,10 @@ and 2 for new ones. b run, b migrate and b verify have no --edition: a code
 text begins with the line B 2 if it is of edition 2.
 
 --with LIB puts the source in LIB after FILE, as often as wanted, and a newline
-before each. LIB is host, input, numbers, print, strings, test or vectors,
-which the library has; or it is a path, with a slash or a point in it. The
-source is then all of these bytes, and its lines are counted from the first one
-of FILE on. check, try, names, trace, count, show, and go with --where or
+before each. LIB is host, input, numbers, print, raise, strings, test or
+vectors, which the library has; or it is a path, with a slash or a point in it.
+The source is then all of these bytes, and its lines are counted from the first
+one of FILE on. check, try, names, trace, count, show, and go with --where or
 --careful tell a line of LIB by its own number and the name of its file.
 
 The status is 0 if a source compiles. After a run it is the exit status of the
