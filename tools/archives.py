@@ -377,12 +377,12 @@ PACKAGE = """{{
   "description": "{summary}",
   "type": "module",
   "main": "./b.mjs",
-  "types": "./b.d.ts",
+  "types": "./b.d.mts",
   "exports": {{
-    ".": {{ "types": "./b.d.ts", "default": "./b.mjs" }},
+    ".": {{ "types": "./b.d.mts", "default": "./b.mjs" }},
     "./b.wasm": "./b.wasm",
     "./sessions.wasm": "./sessions.wasm",
-    "./bcode": "./bcode.mjs",
+    "./bcode": {{ "types": "./bcode.d.mts", "default": "./bcode.mjs" }},
     "./package.json": "./package.json"
   }},
   "bin": {{ "b": "./b.mjs" }},

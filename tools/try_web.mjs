@@ -290,6 +290,15 @@ function tryCalls(room) {
   expectCall('count', b.count(source, made), ['count', name, ...after], 'hi');
   expectCall('count, json', b.count(source, {...made, json: true}), ['count', '--json', name, ...after], 'hi');
   expectCall('migrate', b.migrate(code), ['migrate'], code);
+  expectCall('verify', b.verify(code, {name: 'code'}), ['verify', 'code']);
+  expectCall('list, a code text', b.list(code, {name: 'code', code: true}), ['list', '--code', 'code']);
+  const texts = {code: 'F main 0 0 0 0 4\nc 1\nc 0\nb /\nr\nE\n', lines: '1\n1 3\n1\n1\n', names: 'F main\n'};
+  for (const [kind, text] of Object.entries(texts)) fs.writeFileSync(path.join(room, `made.${kind}`), text);
+  const by = Object.keys(texts).flatMap(it => [it === 'code' ? '--made' : `--${it}`, `made.${it}`]);
+  for (const call of ['list', 'map', 'trace', 'count', 'show'])
+    expectCall(`${call}, of another compiler`, b[call](source, {name, made: texts}), [call, ...by, name]);
+  expectCall('go, of another compiler', b.go(source, {name, made: texts, where: true}), ['go', '--where', ...by, name]);
+  expectCall('a careful run', b.go(source, {name, libs, careful: 'warn'}), ['go', '--careful=warn', name, ...after]);
   const {status, findings} = b.check(source, {name}), wanted = native(['check', '--json', name]);
   const lines = findings.map(it => `${JSON.stringify(it)}\n`).join('');
   expect(status === wanted.status && lines === `${wanted.out}`, 'check');
@@ -301,12 +310,12 @@ function tryTexts() {
   const shifted = new Uint8Array([0, ...bytes, 0]);
   const views = [shifted.subarray(1, -1), new DataView(shifted.buffer, 1, bytes.length)];
   for (const text of [source, bytes, bytes.buffer, ...views]) expect(b.go(text).text === '42', 'a kind of text');
-  const refused = (call, options) => {
+  const refused = (call, options, kind = RangeError) => {
     try {
       b[call](source, options);
       return false;
     } catch (error) {
-      return error instanceof RangeError;
+      return error instanceof kind;
     }
   };
   for (const edition of [0, 3, 257, -1, 1.5, '2', NaN])
@@ -315,6 +324,9 @@ function tryTexts() {
   for (const number of [0, -1, 2 ** 64, 1.5, NaN, -Infinity])
     for (const name of ['steps', 'from', 'last'])
       expect(refused('trace', {[name]: number}), `trace: ${name} ${number}`);
+  for (const call of ['compile', 'check', 'run', 'go', 'format', 'list', 'map', 'trace', 'count', 'show', 'verify'])
+    expect(refused(call, {stpes: 1}, TypeError), `${call}: an option that isn't one`);
+  expect(refused('list', {made: {line: ''}}, TypeError), 'list: a text that nothing would look at');
   const long = b.go("main() { auto n; n = 40000; while(n--) { putchar('ab'); putchar('cd'); } }", {steps: Infinity});
   expect(long.status === 0 && long.text === 'abcd'.repeat(40000), 'an output of 160000 bytes');
 }

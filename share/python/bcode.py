@@ -23,6 +23,8 @@ END_OF_STRING, LAST = 4, 2 ** 64 - 1
 NAME = re.compile(r"[A-Za-z_][A-Za-z0-9_]{0,7}", re.ASCII)
 Text = Union[bytes, bytearray, memoryview, str]
 BEFORE_INC, BEFORE_DEC, AFTER_INC, AFTER_DEC = range(4)
+HEAD = re.compile(r"[FVX] \S+(?: [0-9]{1,5})+", re.ASCII)
+NUMBERS = {"F": 5, "V": 3, "X": 2}  # in the first line of a definition
 
 
 class CodeError(Exception):
@@ -389,14 +391,17 @@ class Code:
 
     def take(self, text: Text) -> None:
         """Takes in the definitions of a whole code text, as `b compile` writes it of a file of B's library."""
-        lines = (text if isinstance(text, str) else bytes(text).decode("ascii")).split("\n")
+        lines = (text if isinstance(text, str) else bytes(text).decode("ascii", "replace")).split("\n")
         if lines[-2:] != ["E", ""]:
             raise CodeError("that is no whole code text: its last line isn't E")
         lines = lines[lines[0] == "B 2":-2]
         while lines:
-            kind, name, *numbers = lines[0].split(" ")
+            head = HEAD.fullmatch(lines[0])
+            kind, name, *numbers = head[0].split(" ") if head else ("", "")
             sizes = [int(it) for it in numbers]
             size = 1 + sum(sizes[2:] if kind == "F" else sizes[-2:])
+            if len(sizes) != NUMBERS.get(kind) or size > len(lines):
+                raise CodeError(f"that is no whole code text: no definition is at the line {lines[0]!r}")
             self.define(Taken(self, name, lines[:size], sizes[-1] if kind == "F" else sizes[-2]))
             for it in lines[1:size]:
                 if it.startswith("x "):

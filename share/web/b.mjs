@@ -1,7 +1,7 @@
 // The program `b` on any machine with WebAssembly: b.wasm, for Node and for pages.
 //
 //   node b.mjs go x.b                      the whole command line, with b.wasm and the folder lib beside this file
-//   import {load} from './b.mjs';          in a program; b.d.ts beside this file has the types
+//   import {load} from './b.mjs';          in a program; b.d.mts beside this file has the types
 //   const b = await load(fetch('b.wasm'));
 //   b.go('main() { printn(6*7, 10); }').text
 //
@@ -214,13 +214,44 @@ function numberWords(name, number) {
   throw new RangeError(`${name} is ${String(number)}, and has to be a whole number from 1 to ${MOST[name]}`);
 }
 
+/** Refuses what nothing would look at, such as a name that is misspelt. */
+export function only(names, given) {
+  const other = Object.keys(given).find(name => !names.includes(name));
+  if (other !== undefined) throw new TypeError(`there is no ${other} here, but ${names.join(', ')}`);
+}
+
+const FLAGS = ['code', 'where', 'json'], MADE = {code: '--made', lines: '--lines', names: '--names'};
+const OF_SOURCE = ['name', 'edition', 'libs'], OF_RUN = ['input', 'steps', 'output', 'diagnostics', 'atOnce'];
+const OF_CODE = [...OF_SOURCE, 'code', 'made'], SHOWN = ['input', 'steps', 'from', 'last'];
+const OPTIONS = {
+  compile: ['edition', 'libs'],
+  check: [...OF_SOURCE, 'json'],
+  run: ['name', 'where', ...OF_RUN],
+  go: [...OF_CODE, 'where', 'careful', ...OF_RUN],
+  format: ['name', 'edition'],
+  list: OF_CODE,
+  map: OF_CODE,
+  trace: [...OF_CODE, ...SHOWN, 'function'],
+  count: [...OF_CODE, 'input', 'steps', 'json'],
+  show: [...OF_CODE, ...SHOWN],
+  verify: ['name'],
+};
+
+/** The texts that another compiler made of a source, each with its option and the name of its file. */
+function madeOf(made = {}) {
+  only(Object.keys(MADE), made);
+  const given = Object.keys(MADE).filter(it => made[it] !== undefined);
+  return given.map(it => ({option: MADE[it], file: `made.${it}`, text: made[it]}));
+}
+
 /** The words of the options of a command, but for the names of files. */
-function wordsOf({steps, where, json, function: name, libs = {}, ...options}) {
+function wordsOf({steps, careful, function: name, libs = {}, made, ...options}) {
   const words = ['edition', 'from', 'last'].flatMap(it => numberWords(it, options[it]));
   words.push(...(steps === Infinity ? ['--no-limit'] : numberWords('steps', steps)));
-  if (where) words.push('--where');
-  if (json) words.push('--json');
+  words.push(...FLAGS.filter(it => options[it]).map(it => `--${it}`));
+  if (careful) words.push(careful === true ? '--careful' : `--careful=${careful}`);
   if (name !== undefined) words.push('--function', name);
+  words.push(...madeOf(made).flatMap(({option, file}) => [option, file]));
   return [...words, ...Object.keys(libs).flatMap(it => ['--with', it])];
 }
 
@@ -258,50 +289,59 @@ class Program {
   }
 
   /** A command with the file of a source, and the files that come after it. */
-  ofFile(command, name, text, options) {
-    const files = filesOf({...options.libs, [name]: text});
-    return this.answer([...command, ...wordsOf(options), '--', name], {...options, files});
+  ofFile(command, text, options = {}, file = SOURCE) {
+    only(OPTIONS[command], options);
+    const {name = file, ...how} = options;
+    const made = madeOf(how.made).map(it => [it.file, it.text]);
+    const files = filesOf({...how.libs, ...Object.fromEntries(made), [name]: text});
+    return this.answer([command, ...wordsOf(how), '--', name], {...how, files});
   }
 
-  compile(source, {edition, libs = {}} = {}) {
-    return this.answer(['compile', ...wordsOf({edition, libs})], {input: source, files: filesOf(libs)});
+  compile(source, options = {}) {
+    only(OPTIONS.compile, options);
+    return this.answer(['compile', ...wordsOf(options)], {input: source, files: filesOf(options.libs ?? {})});
   }
 
-  check(source, {name = SOURCE, edition, libs} = {}) {
-    const {status, text} = this.ofFile(['check', '--json'], name, source, {edition, libs});
+  check(source, options = {}) {
+    only(OF_SOURCE, options);
+    const {status, text} = this.ofFile('check', source, {json: true, ...options});
     return {status, findings: text.split('\n').filter(it => it).map(it => JSON.parse(it))};
   }
 
-  run(code, {name = CODE, ...options} = {}) {
-    return this.ofFile(['run'], name, code, options);
+  run(code, options) {
+    return this.ofFile('run', code, options, CODE);
   }
 
-  go(source, {name = SOURCE, ...options} = {}) {
-    return this.ofFile(['go'], name, source, options);
+  go(source, options) {
+    return this.ofFile('go', source, options);
   }
 
-  format(source, {name = SOURCE, edition} = {}) {
-    return this.ofFile(['format'], name, source, {edition});
+  format(source, options) {
+    return this.ofFile('format', source, options);
   }
 
-  list(source, {name = SOURCE, edition, libs} = {}) {
-    return this.ofFile(['list'], name, source, {edition, libs});
+  list(source, options) {
+    return this.ofFile('list', source, options);
   }
 
-  map(source, {name = SOURCE, edition, libs} = {}) {
-    return this.ofFile(['map'], name, source, {edition, libs});
+  map(source, options) {
+    return this.ofFile('map', source, options);
   }
 
-  trace(source, {name = SOURCE, ...options} = {}) {
-    return this.ofFile(['trace'], name, source, options);
+  trace(source, options) {
+    return this.ofFile('trace', source, options);
   }
 
-  count(source, {name = SOURCE, ...options} = {}) {
-    return this.ofFile(['count'], name, source, options);
+  count(source, options) {
+    return this.ofFile('count', source, options);
   }
 
-  show(source, {name = SOURCE, ...options} = {}) {
-    return this.ofFile(['show'], name, source, options);
+  show(source, options) {
+    return this.ofFile('show', source, options);
+  }
+
+  verify(code, options) {
+    return this.ofFile('verify', code, options, CODE);
   }
 
   migrate(code) {

@@ -16,7 +16,8 @@ const WORDS = 32767, VALUES = 1024, STRINGS = 1024, PARAMETERS = 128, LABELS = 1
 const LIBRARY = ['char', 'lchar', 'getchar', 'putchar', 'printn', 'exit'];
 const OPERATORS = ['|', '&', '==', '!=', '<', '<=', '>', '>=', '<<', '>>', '-', '+', '%', '*', '/'];
 const END_OF_STRING = 4, LAST = Number.MAX_SAFE_INTEGER;
-const NAME = /^[A-Za-z_][A-Za-z0-9_]{0,7}$/;
+const NAME = /^[A-Za-z_][A-Za-z0-9_]{0,7}$/, HEAD = /^[FVX] \S+( [0-9]{1,5})+$/;
+const NUMBERS = {F: 5, V: 3, X: 2}; // in the first line of a definition
 
 /** The four kinds of `increment`: ++x, --x, x++ and x--. */
 export const BEFORE_INC = 0, BEFORE_DEC = 1, AFTER_INC = 2, AFTER_DEC = 3;
@@ -344,12 +345,15 @@ export class Code {
 
   /** Takes in the definitions of a whole code text, as `b compile` writes it of a file of B's library. */
   take(text) {
-    let lines = text.split('\n');
+    let lines = String(text).split('\n');
     if (lines.slice(-2).join('\n') !== 'E\n') fail("that is no whole code text: its last line isn't E");
     lines = lines.slice(lines[0] === 'B 2' ? 1 : 0, -2);
     while (lines.length) {
       const [kind, name, ...parts] = lines[0].split(' '), sizes = parts.map(Number);
       const size = (kind === 'F' ? sizes.slice(2) : sizes.slice(-2)).reduce((sum, it) => sum + it, 1);
+      if (!HEAD.test(lines[0]) || sizes.length !== NUMBERS[kind] || size > lines.length) {
+        fail(`that is no whole code text: no definition is at the line '${lines[0]}'`);
+      }
       this.define(new Taken(this, name, lines.slice(0, size), sizes.at(kind === 'F' ? -1 : -2)));
       for (const it of lines.slice(1, size)) if (it.startsWith('x ')) this.use(it.slice(2));
       lines = lines.slice(size);

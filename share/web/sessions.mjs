@@ -1,9 +1,9 @@
 // Sessions: programs that stay in memory, and their runs, in slices. Between these the input is fed, the output is
-// taken, and words are seen and stored. `loadSessions` of b.mjs takes this file, and b.d.ts has the types.
+// taken, and words are seen and stored. `loadSessions` of b.mjs takes this file, and b.d.mts has the types.
 //
 // The module sessions.wasm has the calls of share/c/b_session.h. An address and a size have 64 bits there, and so they
 // are BigInts here.
-import {Kept, Refused, Stopped, bytesOf} from './b.mjs';
+import {Kept, Refused, Stopped, bytesOf, only} from './b.mjs';
 import {Serving, storeText, textAt, wordOf} from './serving.mjs';
 
 const DONE = 0, TRAP = 130, REFUSED = 132, FULL = 133, MEMORY = 134, CLOSED = 135, LARGE = 137;
@@ -30,12 +30,6 @@ function large(name, number) {
   const is = typeof number === 'bigint' || Number.isInteger(number) ? BigInt(number) : -1n;
   if (is >= 0n && is <= MOST) return is;
   throw new RangeError(`${name} is ${String(number)}, and has to be a whole number from 0 to ${MOST}, or Infinity`);
-}
-
-/** Refuses what nothing would look at, such as a name that is misspelt. */
-function only(names, given) {
-  const other = Object.keys(given).find(name => !names.includes(name));
-  if (other !== undefined) throw new TypeError(`there is no ${other} here, but ${names.join(', ')}`);
 }
 
 /** The limits of a run, as a call takes them. */

@@ -31,6 +31,25 @@ export interface SourceOptions {
   libs?: Record<string, Text>;
 }
 
+/** What another compiler has made of a source: its code text, the line of each place of that, and names. */
+export interface Made {
+  code: Text;
+  lines: Text;
+  names?: Text;
+}
+
+export interface CodeOptions extends SourceOptions {
+  /** Whether the source is a code text of any compiler. */
+  code?: boolean;
+  /** What the compiler of an author made of the source, in any language. */
+  made?: Made;
+}
+
+export interface GoOptions extends CodeOptions, RunOptions {
+  /** Whether the run stays at the first step with a finding, or how else `b go --careful` goes on. */
+  careful?: boolean | 'warn' | 'wraps';
+}
+
 export interface RunOptions {
   input?: Text | Input;
   /** The most steps, up to 4000000000; `Infinity` for no limit. */
@@ -43,7 +62,7 @@ export interface RunOptions {
   atOnce?: boolean;
 }
 
-export interface ShowOptions extends SourceOptions {
+export interface ShowOptions extends CodeOptions {
   input?: Text | Input;
   steps?: number;
   from?: number;
@@ -55,7 +74,7 @@ export interface TraceOptions extends ShowOptions {
   function?: string;
 }
 
-export interface CountOptions extends SourceOptions {
+export interface CountOptions extends CodeOptions {
   input?: Text | Input;
   steps?: number;
   /** Whether `output` has an object for each line that has code, in place of a table. */
@@ -100,7 +119,8 @@ export interface Finding {
 }
 
 /** A number that isn't in its range is a `RangeError`: an edition, a number of steps, or a step from which rows are
-    shown. All that a program writes comes, up to what the engine takes for one array of bytes. */
+    shown. An option that isn't one of these is a `TypeError`. All that a program writes comes, up to what the engine
+    takes for one array of bytes. */
 export interface Program {
   /** Runs a command line in memory of its own, and answers its status. */
   command(words: string[], system?: System): Status;
@@ -110,16 +130,18 @@ export interface Program {
   /** Runs a code text. */
   run(code: Text, options?: RunOptions & {name?: string}): Answer;
   /** Compiles a source and runs it. */
-  go(source: Text, options?: SourceOptions & RunOptions): Answer;
+  go(source: Text, options?: GoOptions): Answer;
   format(source: Text, options?: Omit<SourceOptions, 'libs'>): Answer;
   /** The code of a source beside its lines is `text`; where each name lies in memory; the steps of its run. */
-  list(source: Text, options?: SourceOptions): Answer;
-  map(source: Text, options?: SourceOptions): Answer;
+  list(source: Text, options?: CodeOptions): Answer;
+  map(source: Text, options?: CodeOptions): Answer;
   trace(source: Text, options?: TraceOptions): Answer;
   /** How often each line was made. */
   count(source: Text, options?: CountOptions): Answer;
   /** The page of a run is `text`. */
   show(source: Text, options?: ShowOptions): Answer;
+  /** Where operands can lack in a code text. */
+  verify(code: Text, options?: {name?: string}): Answer;
   migrate(code: Text): Answer;
   version(): string;
 }
