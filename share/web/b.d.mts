@@ -157,8 +157,8 @@ export class Refused extends Error {
 }
 
 /** Why a slice has ended. `status` is that of a program which has halted, `trap` has the two letters of a trap, and
-    `of` tells what is too large. Where `raise` of lib/raise.b has halted it, `text` is what that was given, and `at` the
-    nearest caller that has a line of the source itself, if one has. */
+    `of` tells what is too large. Where `raise` of lib/raise.b has halted it, `text` is what that was given, and `at` is
+    the nearest caller that has a line of the source itself, if one has. */
 export interface End {
   why: 'halted' | 'trapped' | 'limit' | 'wants input' | 'stopped' | 'serves' | 'has output' | 'too large';
   status: number;
