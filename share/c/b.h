@@ -25,6 +25,11 @@
 #include <stddef.h>
 #include <stdint.h>
 
+/* The version of this header, as b_version of its library begins, and as a number: 10000 for 1.0.0. What is in a struct
+ * changes with the first part alone, and then the name of the library does, too. */
+#define B_VERSION "1.0.0"
+#define B_VERSION_NUMBER 10000
+
 #ifdef __cplusplus
 extern "C" {
 #endif

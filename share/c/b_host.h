@@ -49,7 +49,7 @@ static inline int b_host_says(uint16_t state, uint16_t which) {
 static inline uint8_t b_host_words(struct b_session *session, uint16_t *queue) {
     struct b_symbol symbol;
     uint8_t status = b_find(session, (const uint8_t *)"hostq", 5, &symbol);
-    if (status == B_REFUSED || (status == B_DONE && (symbol.kind != B_VECTOR || symbol.words != B_HOST_ANSWER + 2)))
+    if (status == B_MISSING || (status == B_DONE && (symbol.kind != B_VECTOR || symbol.words != B_HOST_ANSWER + 2)))
         return B_NO_HOST;
     *queue = (uint16_t)(symbol.address + 1);
     return status;
@@ -115,7 +115,7 @@ static inline uint8_t b_raised(struct b_session *session, uint64_t lines, char *
         if (status == B_DONE && caller->line > 0 && caller->line <= lines)
             return B_DONE;
     }
-    if (status == B_REFUSED)
+    if (status == B_MISSING)
         status = B_DONE; /* past the last one, which leaves zeros */
     return status;
 }
@@ -198,7 +198,7 @@ static inline int b_host_on(struct b_session *session, const struct b_server *se
             return told;
         status = b_continue(session, place.steps < last ? last - place.steps : 0, value);
         told = b_write_out(session, server->talk);
-        if (told != B_DONE || (status != B_FAILED && status != B_HAS_OUTPUT))
+        if (told != B_DONE || (status != B_WANTS_INPUT && status != B_HAS_OUTPUT))
             return told != B_DONE ? told : status;
         if (status == B_HAS_OUTPUT)
             continue;
@@ -241,7 +241,7 @@ static inline int b_call(struct b_session *session, const struct b_server *serve
         told = B_NO_HOST;
     if (told == B_DONE)
         told = b_find(session, (const uint8_t *)name, strlen(name), &symbol);
-    if (told == B_REFUSED || (told == B_DONE && symbol.kind != B_FUNCTION))
+    if (told == B_MISSING || (told == B_DONE && symbol.kind != B_FUNCTION))
         told = B_UNKNOWN;
     if (told == B_DONE)
         told = b_word(session, (uint16_t)symbol.address, &given[1]);

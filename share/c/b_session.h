@@ -121,6 +121,15 @@ struct b_symbol {
 /* The traps by their numbers, from 1, as the lines of `b` name them. */
 static const char b_traps[8][3] = {"", "dz", "fn", "gt", "st", "dp", "bs", "sk"};
 
+/* Names for what three statuses mean here alone: the next step asks for a byte that isn't there yet; there is no such
+ * name, function, call or copy; the input was closed, or an author's file isn't one of its code text. */
+enum {
+    B_WANTS_INPUT = B_FAILED,
+    B_MISSING = B_REFUSED,
+    B_CLOSED = B_WRONG_EDITION,
+    B_WRONG_FILE = B_WRONG_EDITION
+};
+
 /* What there is too much of, beside B_TOO_LARGE. */
 enum { B_OPERANDS = 1, B_PAGES = 2 };
 
@@ -133,7 +142,7 @@ uint8_t b_load_code(const uint8_t *code, size_t code_size, struct b_session *ses
 /* The same of a source with the files that follow it, and of a code text with an author's file of lines and one of
  * names, as CODE.md tells them; none where its size is 0. Unless the status is B_DONE there is no program, and the line
  * tells why, as `b` does; after a fault in a file that follows, its line there. With B_WRONG_EDITION there is no such
- * edition, or a file's name isn't UTF-8, and no line; or an author's file isn't one of this code text. */
+ * edition, or a file's name isn't UTF-8, and no line. With B_WRONG_FILE an author's file isn't one of this code text. */
 uint8_t b_load_with(const uint8_t *source, size_t source_size, const struct b_file *files, size_t file_count,
                     uint8_t edition, uint8_t *line, size_t line_size, struct b_written *written,
                     struct b_session *session);
@@ -142,14 +151,14 @@ uint8_t b_load_code_with(const uint8_t *code, size_t code_size, const uint8_t *l
                          struct b_written *written, struct b_session *session);
 
 /* Tells the name of the function whose first string word has this address. B_FAILED where the room is too small and has
- * its beginning; B_REFUSED where no function lies there; or B_NO_MEMORY. */
+ * its beginning; B_MISSING where no function lies there; or B_NO_MEMORY. */
 uint8_t b_name_of(struct b_session *session, uint32_t function, uint8_t *room, size_t room_size, size_t *count);
 
 /* Tells what the name of a definition stands for, of so many bytes; which definition the word at an address is one of;
  * or what a function has, which is told by the address of its first string word: a named word of its frame, a label or
  * an instruction, each by its number from 0 on. The words of a frame come in their order, parameters first.
  *
- * B_REFUSED where there is none: no such name, an address below 7 or past the last definition, no function there, or
+ * B_MISSING where there is none: no such name, an address below 7 or past the last definition, no function there, or
  * not so many; and the symbol is zeros. A code text has names of words and labels by its author's file alone. The run
  * goes on as if nothing had been asked.
  *
@@ -167,13 +176,13 @@ uint8_t b_instruction(struct b_session *session, uint32_t function, uint32_t pla
 uint8_t b_begin(struct b_session *session);
 
 /* Makes so many steps at most, and tells why it ends:
- *   B_DONE       the program has halted, and `value` is its status;
- *   B_TRAP       a trap has ended it, and `value` is its number;
- *   B_LIMIT      all steps were made;
- *   B_FAILED     the next step asks for a byte that isn't there yet: feed it, or close the input;
- *   B_HAS_OUTPUT more output is there than the limit;
- *   B_TOO_LARGE  more operands or pages are there than the limit, and `value` tells which;
- *   B_NO_MEMORY  memory was refused, and the run is lost.
+ *   B_DONE         the program has halted, and `value` is its status;
+ *   B_TRAP         a trap has ended it, and `value` is its number;
+ *   B_LIMIT        all steps were made;
+ *   B_WANTS_INPUT  the next step asks for a byte that isn't there yet: feed it, or close the input;
+ *   B_HAS_OUTPUT   more output is there than the limit;
+ *   B_TOO_LARGE    more operands or pages are there than the limit, and `value` tells which;
+ *   B_NO_MEMORY    memory was refused, and the run is lost.
  * A run that is over tells its end again. */
 uint8_t b_continue(struct b_session *session, uint64_t steps, uint8_t *value);
 
@@ -189,7 +198,7 @@ uint8_t b_continue_to(struct b_session *session, const struct b_stops *stops, ui
  * With 0 bytes of output a slice ends where any is there. A run begins without limits. */
 uint8_t b_limit(struct b_session *session, size_t operands, uint16_t pages, size_t output);
 
-/* Adds bytes to the input; none with B_NO_MEMORY, and with B_WRONG_EDITION where the input was closed. */
+/* Adds bytes to the input; none with B_NO_MEMORY, and with B_CLOSED where the input was closed. */
 uint8_t b_feed(struct b_session *session, const uint8_t *bytes, size_t size);
 
 /* Tells that no more input comes. */
@@ -206,7 +215,7 @@ uint8_t b_place(struct b_session *session, struct b_place *place);
 uint8_t b_column(struct b_session *session, uint64_t *column);
 
 /* Tells of an active call: the running one has number 0, the one that called it 1. After the end of a run the running
- * one is the call that ran before the last step. B_REFUSED where there are not so many calls; B_NO_MEMORY as for
+ * one is the call that ran before the last step. B_MISSING where there are not so many calls; B_NO_MEMORY as for
  * b_place. */
 uint8_t b_frame(struct b_session *session, size_t number, struct b_frame *frame);
 
@@ -224,11 +233,11 @@ uint8_t b_set_word(struct b_session *session, uint16_t address, uint16_t word);
  * goes back to a copy, gives up the run before, and keeps the copy, with the last number. */
 uint8_t b_copy(struct b_session *session);
 
-/* Goes on with the copy of a number: it becomes the run, and what was the run is kept in its place. B_REFUSED where
+/* Goes on with the copy of a number: it becomes the run, and what was the run is kept in its place. B_MISSING where
  * there is no such copy. It takes no memory and no time. */
 uint8_t b_swap(struct b_session *session, size_t number);
 
-/* Lets go of the copy of a number, and those after it have a number less. B_REFUSED where there is no such copy. */
+/* Lets go of the copy of a number, and those after it have a number less. B_MISSING where there is no such copy. */
 uint8_t b_forget(struct b_session *session, size_t number);
 
 /* Gives a run up, with its copies, and lets go of a program. */
@@ -252,6 +261,41 @@ static inline uint8_t b_start(struct b_session *session, const uint8_t *input, s
         b_end(session);
     status = b_begin(session);
     return status != B_DONE || size == 0 ? status : b_feed(session, input, size);
+}
+
+/* How much a run may hold, as for b_limit. */
+struct b_limits {
+    size_t operands;
+    uint16_t pages;
+    size_t output;
+};
+
+/* The same within limits, from its first step on: b_start alone begins one without limits. */
+static inline uint8_t b_start_within(struct b_session *session, const uint8_t *input, size_t size,
+                                     const struct b_limits *limits) {
+    uint8_t status = b_start(session, input, 0);
+    if (status == B_DONE)
+        status = b_limit(session, limits->operands, limits->pages, limits->output);
+    return status != B_DONE || size == 0 ? status : b_feed(session, input, size);
+}
+
+/* The file that has a line of a source, or null for the source itself, and its line there in place of it. */
+static inline const struct b_file *b_file_of(const uint8_t *source, size_t source_size, const struct b_file *files,
+                                             size_t file_count, uint64_t *line) {
+    const struct b_file *file = 0;
+    size_t number;
+    for (number = 0; number < file_count; number++) {
+        const uint8_t *text = number == 0 ? source : files[number - 1].text;
+        size_t size = number == 0 ? source_size : files[number - 1].text_size, at;
+        uint64_t lines = 1;
+        for (at = 0; at < size; at++)
+            lines += text[at] == '\n';
+        if (*line <= lines)
+            break;
+        *line -= lines;
+        file = &files[number];
+    }
+    return file;
 }
 
 /* Gives all of a session back, whatever it has. */
@@ -305,9 +349,9 @@ static inline uint8_t b_talk_on(struct b_session *session, const struct b_talk *
             return B_LIMIT;
         status = b_continue(session, slice > 0 && slice < steps ? slice : steps, value);
         told = b_write_out(session, talk);
-        if (status == B_FAILED && told == B_DONE)
+        if (status == B_WANTS_INPUT && told == B_DONE)
             told = b_read_in(session, talk);
-        if (status == B_FAILED || status == B_HAS_OUTPUT)
+        if (status == B_WANTS_INPUT || status == B_HAS_OUTPUT)
             status = B_LIMIT;
         if (told == B_DONE)
             told = b_place(session, &after);

@@ -67,7 +67,7 @@ static void try_run(size_t size) {
     expect("a column", b_column(&session, &column), B_DONE);
     expect("none in a source of B", column, 0);
     expect("the end of the input", b_close_input(&session), B_DONE);
-    expect("bytes after it", b_feed(&session, (const uint8_t *)"x", 1), B_WRONG_EDITION);
+    expect("bytes after it", b_feed(&session, (const uint8_t *)"x", 1), B_CLOSED);
     expect("the end", b_continue(&session, 1000, &value), B_DONE);
     expect("its status", value, 9);
     expect("the end again", b_continue(&session, 1, &value), B_DONE);
@@ -295,6 +295,33 @@ static void try_limits(void) {
         while (count > 0);
         b_free(&session);
     }
+}
+
+/* A run within limits from its start, and the file of each line of a source. */
+static void try_starts(void) {
+    static const struct b_limits within = {1000, 256, 3};
+    static const char source[] = "main() while(1)\nputchar(getchar());";
+    static const struct b_file files[] = {{(const uint8_t *)"n", 1, (const uint8_t *)"n;\n", 3},
+                                          {(const uint8_t *)"m", 1, (const uint8_t *)"", 0}};
+    static const struct {
+        uint64_t line, own;
+        int file; /* from 1 on, or 0 for the source */
+    } rows[] = {{0, 0, 0}, {1, 1, 0}, {2, 2, 0}, {3, 1, 1}, {4, 2, 1}, {5, 1, 2}, {6, 2, 2}};
+    struct b_session session = B_NO_SESSION;
+    uint8_t value;
+    size_t row;
+    expect("no program", b_start_within(&session, (const uint8_t *)"", 0, &within), B_REFUSED);
+    expect("a program", load(source, &session), B_DONE);
+    expect("within limits", b_start_within(&session, (const uint8_t *)"abcdef", 6, &within), B_DONE);
+    expect("stops there", b_continue(&session, 1000000, &value), B_HAS_OUTPUT);
+    b_free(&session);
+    for (row = 0; row < sizeof rows / sizeof *rows; row++) {
+        uint64_t line = rows[row].line;
+        const struct b_file *file = b_file_of((const uint8_t *)source, sizeof source - 1, files, 2, &line);
+        expect("a file", file == 0 ? 0 : (long)(file - files) + 1, rows[row].file);
+        expect("its line", (long)line, (long)rows[row].own);
+    }
+    expect("names of statuses", B_WANTS_INPUT == 133 && B_MISSING == 132 && B_CLOSED == 135 && B_WRONG_FILE == 135, 1);
 }
 
 /* A breakpoint in a function that calls itself, its calls, its return, a watched word, and places near enough. */
@@ -599,6 +626,7 @@ int main(int argc, char **argv) {
     try_lines();
     try_authors();
     try_limits();
+    try_starts();
     try_stops();
     try_others();
     try_copies();

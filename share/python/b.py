@@ -28,11 +28,12 @@ Function = Any  # a call of the library, of which ctypes knows the arguments
 STEPS = 100_000_000
 FAULT, TRAP, LIMIT, REFUSED, FAILED, NO_MEMORY, WRONG_EDITION = 1, 130, 131, 132, 133, 134, 135
 HAS_OUTPUT, TOO_LARGE, STOPPED = 136, 137, 138
+WRONG_FILE = WRONG_EDITION  # of a session: a file of its author isn't one of the code text
 __all__ = (
     *("compile", "migrate", "check", "format", "list", "map", "version", "run", "go", "trace", "count", "show"),
     *("Ran", "Error", "Ended", "Session", "Place", "Frame", "Symbol", "End"),
     *("STEPS", "FAULT", "TRAP", "LIMIT", "REFUSED", "FAILED", "NO_MEMORY", "WRONG_EDITION"),
-    *("HAS_OUTPUT", "TOO_LARGE", "STOPPED"),
+    *("HAS_OUTPUT", "TOO_LARGE", "STOPPED", "WRONG_FILE"),
 )
 _LINE = 1024
 _ROOM = 1 << 16
