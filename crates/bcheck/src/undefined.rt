@@ -32,6 +32,7 @@ pub(crate) enum UndefinedName {
     InInput,
     InNumbers,
     InPrint,
+    InRaise,
     InStrings,
     InTest,
     InVectors,
@@ -46,7 +47,7 @@ pub(crate) enum UndefinedName {
 
 /// What the files of the folder `lib` define.
 #[rattlefmt::skip]
-const IN_LIBRARY: [(&str, UndefinedName); 51] = [
+const IN_LIBRARY: [(&str, UndefinedName); 52] = [
     ("abs", UndefinedName::InNumbers), ("assert", UndefinedName::InPrint), ("compare", UndefinedName::InStrings),
     ("concat", UndefinedName::InStrings), ("copy", UndefinedName::InStrings), ("dump", UndefinedName::InPrint),
     ("fill", UndefinedName::InVectors), ("flush", UndefinedName::InPrint), ("getline", UndefinedName::InInput),
@@ -57,13 +58,14 @@ const IN_LIBRARY: [(&str, UndefinedName); 51] = [
     ("max", UndefinedName::InNumbers), ("min", UndefinedName::InNumbers), ("number", UndefinedName::InNumbers),
     ("printf", UndefinedName::InPrint), ("prsize", UndefinedName::InPrint), ("prvalue", UndefinedName::InPrint),
     ("putnumb", UndefinedName::InPrint), ("putoct", UndefinedName::InPrint), ("putstr", UndefinedName::InPrint),
-    ("putuns", UndefinedName::InPrint), ("rand", UndefinedName::InNumbers), ("random", UndefinedName::InNumbers),
-    ("randseed", UndefinedName::InNumbers), ("rlsevec", UndefinedName::InVectors), ("serve", UndefinedName::InHost),
-    ("sort", UndefinedName::InVectors), ("sortby", UndefinedName::InVectors), ("test", UndefinedName::InTest),
-    ("testbad", UndefinedName::InTest), ("testnums", UndefinedName::InTest), ("testok", UndefinedName::InTest),
-    ("testput", UndefinedName::InTest), ("testquot", UndefinedName::InTest), ("tests", UndefinedName::InTest),
-    ("testsay", UndefinedName::InTest), ("teststr", UndefinedName::InTest), ("testvec", UndefinedName::InTest),
-    ("upper", UndefinedName::InStrings), ("vecleft", UndefinedName::InVectors), ("vecnext", UndefinedName::InVectors),
+    ("putuns", UndefinedName::InPrint), ("raise", UndefinedName::InRaise), ("rand", UndefinedName::InNumbers),
+    ("random", UndefinedName::InNumbers), ("randseed", UndefinedName::InNumbers), ("rlsevec", UndefinedName::InVectors),
+    ("serve", UndefinedName::InHost), ("sort", UndefinedName::InVectors), ("sortby", UndefinedName::InVectors),
+    ("test", UndefinedName::InTest), ("testbad", UndefinedName::InTest), ("testnums", UndefinedName::InTest),
+    ("testok", UndefinedName::InTest), ("testput", UndefinedName::InTest), ("testquot", UndefinedName::InTest),
+    ("tests", UndefinedName::InTest), ("testsay", UndefinedName::InTest), ("teststr", UndefinedName::InTest),
+    ("testvec", UndefinedName::InTest), ("upper", UndefinedName::InStrings), ("vecleft", UndefinedName::InVectors),
+    ("vecnext", UndefinedName::InVectors),
 ];
 
 /// What other languages name otherwise than the files of the folder `lib`.
@@ -93,6 +95,7 @@ impl UndefinedName {
             UndefinedName::OtherEdition =>
                 ("nothing defines @: in edition 1 it is a name", "--edition 2 makes it a keyword"),
             UndefinedName::InHost => ("nothing defines @", "lib/host.b has it: b go FILE --with host"),
+            UndefinedName::InRaise => ("nothing defines @", "lib/raise.b has it: b go FILE --with raise"),
             UndefinedName::InInput => ("nothing defines @", "lib/input.b has it: b go FILE --with input"),
             UndefinedName::InNumbers => ("nothing defines @", "lib/numbers.b has it: b go FILE --with numbers"),
             UndefinedName::InPrint => ("nothing defines @", "lib/print.b has it: b go FILE --with print"),

@@ -30,6 +30,7 @@ main() {
     putoct();
     putstr();
     putuns();
+    raise();
     rand();
     random();
     randseed();
