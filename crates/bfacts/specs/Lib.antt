@@ -1,3 +1,4 @@
+pub mod CheckFacts
 pub mod EngineRows
 pub mod FurtherRows
 pub mod PairRows
