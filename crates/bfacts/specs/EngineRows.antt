@@ -1,5 +1,5 @@
 -- Closed facts: what patterns and conditions find in small rows of branches, beside the facts of `bmatch` itself.
-use Rattle.std.specs.Prelude.{◌≡◌, ℕ, ◌-◌, ◌==◌, codes, true, false, Bool, List, [], ◌∷◌, ◌++◌, None, Option, Some}
+use Rattle.std.specs.Prelude.{◌≡◌, ℕ, codes, true, false, Bool, List, [], ◌∷◌, ◌++◌, None, Option, Some}
 use Rattle.std.specs.Prelude.{map, refl, length, replicate, ◌+◌, suc}
 use Rattle.std.specs.List.{range_with_len}
 use Rattle.bword.specs.declared.operators.BinOp.{BinOp}
@@ -278,6 +278,11 @@ begun_with = refl
 told_first : at true (first_told ∷ hole 0 sort.Any ∷ step.Done ∷ []) 9 ≡ (Some 9, None, Some 9) ∷ []
 told_first = refl
 
+-- of (x) the x, or, where the rule is exact, the parenthesis
+told_in_parentheses : map (λ (loose : Bool). at loose (first_told ∷ hole 0 sort.Any ∷ step.Done ∷ []) 7)
+    (true ∷ false ∷ []) ≡ ((Some 6, None, Some 12) ∷ []) ∷ ((Some 7, None, Some 11) ∷ []) ∷ []
+told_in_parentheses = refl
+
 -- of three that are told the one that is fitted last, which stands first
 told_last : at true (binary op.Add ∷ maker_told ∷ first_told ∷ hole 1 sort.Any ∷ first_told
     ∷ hole 0 sort.Any ∷ step.Done ∷ step.Done ∷ []) 16
@@ -326,7 +331,7 @@ swapped_twice = refl
 -- if(a) if(b) c; else d; has its else in the inner if
 else_of_inner : map (λ (index : ℕ). ways (fits_at (sight_in [] (plain node.Name 2 0
     ∷ around (kind.Node node.Tested) 0 0 1 ∷ plain node.Name 6 2 ∷ around (kind.Node node.Tested) 4 2 3
-    ∷ around (kind.Construct construct.Plain) 8 4 4 ∷ around (kind.Construct construct.Plain) 11 5 5
+    ∷ around (kind.Construct construct.Plain) 8 4 4 ∷ part (kind.Construct construct.Plain) 12 11 13 5 5
     ∷ around (kind.Construct construct.If) 4 2 6 ∷ around (kind.Construct construct.If) 0 0 7 ∷ []) true)
     (step.Tree (kind.Construct construct.If) ∷ step.Told spot.Else ∷ hole 2 sort.Any ∷ hole 1 sort.Any
     ∷ step.Tree (kind.Node node.Tested) ∷ hole 0 sort.Any ∷ step.Done ∷ step.Done ∷ step.Done ∷ [])

@@ -1,12 +1,11 @@
 -- Closed facts where two features meet: a limit and a label, an edge and an escape, a hidden name and a repeated one.
-use Rattle.std.specs.Prelude.{◌≡◌, ◌*◌, ◌+◌, ◌-◌, ℕ, List, [], ◌∷◌, ◌++◌, map, replicate, codes, Option, Some, None, refl}
+use Rattle.std.specs.Prelude.{◌≡◌, ◌*◌, ◌+◌, ◌-◌, ℕ, List, [], ◌∷◌, ◌++◌, map, replicate, codes, Some, None, refl}
 use Rattle.std.specs.Fmt.{digits}
 use Rattle.std.specs.List.{flat_map, range_with_len}
 use Rattle.bword.specs.Words.{binary_of, zeros}
 use Rattle.bword.specs.declared.operators.BinOp.TheVariants as op
 use Rattle.bword.specs.declared.edition.Edition.{Edition}
 use Rattle.bword.specs.declared.edition.Edition.TheVariants as editions
-use Rattle.blang.specs.Code.{fault_of}
 use Rattle.blang.specs.Compiles.{Compilation, compilation_of, compiled_text, line_of}
 use Rattle.blang.specs.Cut.{escape_of, escapes, fixed_of, greatest, keyword_of, longest, number_in, operator_of, other_of}
 use Rattle.blang.specs.Cut.{tokens_from, whole, with_quoted_byte, word_token, cut}
@@ -21,7 +20,6 @@ use Rattle.blang.specs.declared.code.Instr.TheVariants as instr
 use Rattle.blang.specs.declared.code.Ival.{Ival}
 use Rattle.blang.specs.declared.code.Ival.TheVariants as ival
 use Rattle.blang.specs.declared.run.Library.TheVariants.{Exit}
-use Rattle.blang.specs.declared.run.LoadFault.{LoadFault}
 use Rattle.blang.specs.declared.run.LoadFault.TheVariants as fault
 use Rattle.blang.specs.declared.token.About.TheVariants as about
 use Rattle.blang.specs.declared.token.Letters.TheVariants as letters
