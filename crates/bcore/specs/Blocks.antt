@@ -1,5 +1,5 @@
 -- Inner words: a block of output, on its way to a writer.
-use Rattle.std.specs.Prelude.{◌≡◌, ℕ, ◌+◌, ◌≤◌, nat_le, Bool, true, false, List, [], ◌++◌, length, take}
+use Rattle.std.specs.Prelude.{◌≡◌, ℕ, ◌+◌, ◌<◌, ◌≤◌, nat_le, Bool, true, false, List, [], ◌++◌, length, take}
 use Rattle.std.specs.Prelude.{Option, Some, None, Result, Ok, Err}
 use Rattle.std.specs.Io.KnownBytes.{Appends, append_known}
 use Rattle.bword.specs.ByteEnds.{Outgoing}
@@ -68,3 +68,8 @@ pub record Seen : Type 0 where
 abbrev pub spare_of : {G : Type 0} → (spare : G → ℕ) → Option G → ℕ
 spare_of spare None = 0
 spare_of spare (Some guard) = spare guard
+
+-- a buffer is held only where there is room in it
+abbrev pub HoldsRoom : {G : Type 0} → (spare : G → ℕ) → Option G → Type 0
+HoldsRoom spare None = Unit {0}
+HoldsRoom spare (Some guard) = 0 < spare guard

@@ -234,7 +234,7 @@ pub struct OutputEnd<'a, B: Buffered + Drop> {
 impl<'a, B: Buffered + Drop> Model for OutputEnd<'a, B> {
     ghost use Rattle.std.specs.RefCell.{ref_mut_value};
     ghost use Rattle.std.specs.Prelude.{None};
-    ghost use Rattle.bcore.specs.Blocks.{Seen, spare_of};
+    ghost use Rattle.bcore.specs.Blocks.{HoldsRoom, Seen, spare_of};
 
     ghost Value = { Seen };
 
@@ -242,6 +242,8 @@ impl<'a, B: Buffered + Drop> Model for OutputEnd<'a, B> {
       seen = record { written = None; failures = e.failures; refusals = 0 };
       room = spare_of (λ guard. B.spare (ref_mut_value guard)) e.held;
     } };
+
+    ghost invariant = { λ e. HoldsRoom (λ guard. B.spare (ref_mut_value guard)) e.held };
 }
 
 impl<'a, B: Buffered + Drop> OutputEnd<'a, B> {
