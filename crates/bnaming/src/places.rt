@@ -64,7 +64,7 @@ impl Mark {
         }
     }
 
-    /// Where that is. No memory holds the rows of a source that is longer than these numbers.
+    /// Where that is. A place beyond these numbers, in a line of more than 4 GB, is refused as memory is.
     pub(crate) fn spot(self, source: &[u8]) -> Result<Spot, AllocError>
         requires { IsMark source.now self }
         ensures { IfOk result (λ s. s ≡ spot_at source.now self.at) }
