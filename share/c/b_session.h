@@ -8,9 +8,9 @@
  *
  * However a run is cut into slices, it is the same run. Beside what b.h says, the caller sees to this:
  * - A session is B_NO_SESSION at first. Of its two pointers only the calls write one; a copy of it isn't used.
- * - The four calls that load get one without a program, b_begin one with a program and without a run, b_unload the
- *   same, and b_name_of and the five calls for symbols one with a program. All else gets one with a run. Its pointers
- *   tell: without a program or a run it is null. b_start and b_free look.
+ * - The four calls that load want one without a program, b_begin and b_unload one with a program and without a run, and
+ *   b_name_of and the five calls for symbols one with a program. All else wants one with a run. What gets another one
+ *   answers B_UNREADY, and does nothing. The two pointers tell: without a program or a run it is null.
  * - Threads may each have sessions of their own, and 2 MB of stack. A session is in one call at a time.
  * - b_free comes last, or the memory of the session stays. */
 #ifndef B_SESSION_H
@@ -120,6 +120,10 @@ struct b_symbol {
 
 /* The traps by their numbers, from 1, as the lines of `b` name them. */
 static const char b_traps[8][3] = {"", "dz", "fn", "gt", "st", "dp", "bs", "sk"};
+
+/* The session has a program or a run where the call wants none, or lacks what it wants: nothing was done. What a call
+ * tells beside its status is then 0. */
+enum { B_UNREADY = 142 };
 
 /* Names for what three statuses mean here alone: the next step asks for a byte that isn't there yet; there is no such
  * name, function, call or copy; the input was closed, or an author's file isn't one of its code text. */
@@ -240,9 +244,9 @@ uint8_t b_swap(struct b_session *session, size_t number);
 /* Lets go of the copy of a number, and those after it have a number less. B_MISSING where there is no such copy. */
 uint8_t b_forget(struct b_session *session, size_t number);
 
-/* Gives a run up, with its copies, and lets go of a program. */
+/* Gives a run up, with its copies; lets go of a program without a run. */
 uint8_t b_end(struct b_session *session);
-void b_unload(struct b_session *session);
+uint8_t b_unload(struct b_session *session);
 
 /* Nothing at which a slice stops, to which stops are added. */
 static inline struct b_stops b_no_stops(void) {
@@ -255,8 +259,6 @@ static inline struct b_stops b_no_stops(void) {
 /* Begins a run anew, with this much of its input. */
 static inline uint8_t b_start(struct b_session *session, const uint8_t *input, size_t size) {
     uint8_t status;
-    if (session->program == 0)
-        return B_REFUSED;
     if (session->run != 0)
         b_end(session);
     status = b_begin(session);

@@ -310,7 +310,7 @@ static void try_starts(void) {
     struct b_session session = B_NO_SESSION;
     uint8_t value;
     size_t row;
-    expect("no program", b_start_within(&session, (const uint8_t *)"", 0, &within), B_REFUSED);
+    expect("no program", b_start_within(&session, (const uint8_t *)"", 0, &within), B_UNREADY);
     expect("a program", load(source, &session), B_DONE);
     expect("within limits", b_start_within(&session, (const uint8_t *)"abcdef", 6, &within), B_DONE);
     expect("stops there", b_continue(&session, 1000000, &value), B_HAS_OUTPUT);
@@ -322,6 +322,70 @@ static void try_starts(void) {
         expect("its line", (long)line, (long)rows[row].own);
     }
     expect("names of statuses", B_WANTS_INPUT == 133 && B_MISSING == 132 && B_CLOSED == 135 && B_WRONG_FILE == 135, 1);
+}
+
+/* What each call that wants a run answers of a session, and each one that wants a program. */
+static int runs_unready(struct b_session *session) {
+    static const struct b_code_place none = {0, 0};
+    static const struct b_watched nothing = {0, 0};
+    const struct b_stops stops = {&none, 0, &none, 0, 0, 0, &nothing, 0};
+    struct b_place place;
+    struct b_frame frame;
+    uint8_t value, room[8];
+    size_t count = 1;
+    uint64_t column;
+    uint16_t word;
+    const uint8_t told[] = {
+        b_continue(session, 1, &value), b_continue_to(session, &stops, 1, &value), b_frame(session, 0, &frame),
+        b_limit(session, 0, 0, 0), b_feed(session, room, 0), b_close_input(session),
+        b_output(session, room, sizeof room, &count), b_place(session, &place), b_column(session, &column),
+        b_word(session, 7, &word), b_set_word(session, 7, 1), b_copy(session), b_swap(session, 0),
+        b_forget(session, 0), b_end(session),
+    };
+    for (size_t call = 0; call < sizeof told; call++)
+        if (told[call] != B_UNREADY)
+            return 0;
+    return value == 0 && frame.line == 0 && count == 0 && place.steps == 0 && column == 0 && word == 0;
+}
+
+static int programs_unready(struct b_session *session) {
+    struct b_symbol it;
+    uint8_t room[8];
+    size_t count = 1;
+    return b_name_of(session, 8, room, sizeof room, &count) == B_UNREADY && count == 0 &&
+           b_find(session, (const uint8_t *)"main", 4, &it) == B_UNREADY && it.kind == 0 &&
+           b_symbol_at(session, 7, &it) == B_UNREADY && b_local(session, 8, 0, &it) == B_UNREADY &&
+           b_label(session, 8, 0, &it) == B_UNREADY && b_instruction(session, 8, 0, &it) == B_UNREADY &&
+           b_begin(session) == B_UNREADY && b_unload(session) == B_UNREADY;
+}
+
+/* What each call that loads answers of a session that has a program, which stays. */
+static int loads_unready(struct b_session *session) {
+    const struct b_session before = *session;
+    const uint8_t *text = (const uint8_t *)"main() ;";
+    struct b_written written = {7, 7};
+    uint8_t line[8];
+    return b_load(text, 8, 1, session) == B_UNREADY && b_load(text, 8, 3, session) == B_UNREADY &&
+           b_load_code(text, 8, session) == B_UNREADY &&
+           b_load_with(text, 8, 0, 0, 1, line, sizeof line, &written, session) == B_UNREADY &&
+           b_load_code_with(text, 8, text, 0, text, 0, line, sizeof line, &written, session) == B_UNREADY &&
+           written.out == 0 && written.line == 0 && memcmp(&before, session, sizeof before) == 0;
+}
+
+static void try_unready(void) {
+    struct b_session session = B_NO_SESSION;
+    uint8_t value = 0;
+    expect("without a program", runs_unready(&session) && programs_unready(&session), 1);
+    expect("still none", session.run != 0 || session.program != 0, 0);
+    expect("a program", load("main() exit(5);", &session), B_DONE);
+    expect("without a run", runs_unready(&session) && loads_unready(&session), 1);
+    expect("a run", b_start(&session, (const uint8_t *)"", 0), B_DONE);
+    expect("with a run", loads_unready(&session), 1);
+    expect("another one", b_begin(&session), B_UNREADY);
+    expect("a program in use", b_unload(&session), B_UNREADY);
+    expect("the run goes on", b_continue(&session, 1000, &value), B_DONE);
+    expect("its status", value, 5);
+    b_free(&session);
 }
 
 /* A breakpoint in a function that calls itself, its calls, its return, a watched word, and places near enough. */
@@ -397,7 +461,7 @@ static void try_others(void) {
     expect("no edition", b_load((const uint8_t *)"", 0, 3, &session), B_WRONG_EDITION);
     expect("no main", load("n;", &session), B_REFUSED);
     expect("no code text", b_load_code((const uint8_t *)"E", 1, &session), B_REFUSED);
-    expect("nothing to start", b_start(&session, (const uint8_t *)"", 0), B_REFUSED);
+    expect("nothing to start", b_start(&session, (const uint8_t *)"", 0), B_UNREADY);
     expect("words to the end", load("v[32766]; w[32758]; main() { auto a; ; }", &session), B_DONE);
     expect("no room for a frame", b_start(&session, (const uint8_t *)"", 0), B_TRAP);
     b_free(&session);
@@ -627,6 +691,7 @@ int main(int argc, char **argv) {
     try_authors();
     try_limits();
     try_starts();
+    try_unready();
     try_stops();
     try_others();
     try_copies();

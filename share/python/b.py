@@ -468,7 +468,6 @@ def _sessions(library: ctypes.CDLL) -> None:
     for name, words in takes.items():
         function = getattr(library, f"b_{name}")
         function.argtypes, function.restype = words, ctypes.c_uint8
-    library.b_unload.restype = None
 
 
 _sessions(_library)

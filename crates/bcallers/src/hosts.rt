@@ -1,6 +1,6 @@
 use bhost::calls::{
-    Whereabouts, begin, close, column, copy, end, feed, find, forget, go_on, limit, load, look,
-    name_of, read, store, swap, take, tell, unload,
+    UNREADY, Whereabouts, begin, close, column, copy, end, feed, find, forget, go_on, limit, load,
+    look, name_of, read, store, swap, take, tell, unload,
 };
 use bhost::symbols::{AUTOMATIC_VECTOR, FUNCTION, VECTOR};
 use bhost::{Host, Query, Symbol};
@@ -38,7 +38,7 @@ fn a_program_is_held_with_its_session(rt: HostRuntime) -> Result<(), Fail> {
     assert_eq!(rt; read(alloc, &mut host, 7, &mut word), 0);
     assert_eq!(rt; word, 3);
     assert_eq!(rt; end(alloc, &mut host), 0);
-    unload(alloc, &mut host);
+    assert_eq!(rt; unload(alloc, &mut host), 0);
     host.forget();
     Ok(())
 }
@@ -59,7 +59,7 @@ fn a_program_whose_input_is_closed(rt: HostRuntime) -> Result<(), Fail> {
     assert_eq!(rt; go_on(alloc, &mut host, 1000, &mut value), 0);
     assert_eq!(rt; value, 9);
     assert_eq!(rt; end(alloc, &mut host), 0);
-    unload(alloc, &mut host);
+    assert_eq!(rt; unload(alloc, &mut host), 0);
     host.forget();
     Ok(())
 }
@@ -91,7 +91,7 @@ fn a_host_tells_its_place(rt: HostRuntime) -> Result<(), Fail> {
     );
     assert!(rt; count == 4 && name == *b"main");
     assert_eq!(rt; end(alloc, &mut host), 0);
-    unload(alloc, &mut host);
+    assert_eq!(rt; unload(alloc, &mut host), 0);
     host.forget();
     Ok(())
 }
@@ -116,7 +116,7 @@ fn a_host_tells_its_column(rt: HostRuntime) -> Result<(), Fail> {
     assert_eq!(rt; column(alloc, &mut host, &mut told), 0);
     assert_eq!(rt; told, 12);
     assert_eq!(rt; end(alloc, &mut host), 0);
-    unload(alloc, &mut host);
+    assert_eq!(rt; unload(alloc, &mut host), 0);
     host.forget();
     Ok(())
 }
@@ -147,7 +147,7 @@ fn a_host_tells_what_names_stand_for(rt: HostRuntime) -> Result<(), Fail> {
     );
     assert!(rt; symbol.kind == 0 && symbol.name[0] == 0);
     assert_eq!(rt; find(alloc, &mut host, b"1f", &mut symbol), 132);
-    unload(alloc, &mut host);
+    assert_eq!(rt; unload(alloc, &mut host), 0);
     host.forget();
     Ok(())
 }
@@ -182,7 +182,29 @@ fn a_host_keeps_copies(rt: HostRuntime) -> Result<(), Fail> {
     assert_eq!(rt; word, 9);
     assert_eq!(rt; copy(alloc, &mut host), 0);
     assert_eq!(rt; end(alloc, &mut host), 0);
-    unload(alloc, &mut host);
+    assert_eq!(rt; unload(alloc, &mut host), 0);
+    host.forget();
+    Ok(())
+}
+
+#[test]
+fn a_host_that_is_not_ready(rt: HostRuntime) -> Result<(), Fail> {
+    let alloc = rt.alloc();
+    let mut host = Host::none();
+    let mut value = 7;
+    assert_eq!(rt; go_on(alloc, &mut host, 1, &mut value), UNREADY);
+    assert_eq!(rt; value, 0);
+    assert_eq!(rt; unload(alloc, &mut host), UNREADY);
+    assert_eq!(rt;
+        load(alloc, SOURCE, Origin::Source(Edition::One), &mut host),
+        0
+    );
+    assert_eq!(rt; end(alloc, &mut host), UNREADY);
+    assert_eq!(rt; begin(alloc, &mut host), 0);
+    assert_eq!(rt; begin(alloc, &mut host), UNREADY);
+    assert_eq!(rt; unload(alloc, &mut host), UNREADY);
+    assert_eq!(rt; end(alloc, &mut host), 0);
+    assert_eq!(rt; unload(alloc, &mut host), 0);
     host.forget();
     Ok(())
 }

@@ -8,6 +8,7 @@ use Rattle.btools.specs.FaultPlaces.{fault_lines}
 use Rattle.btools.specs.Origins.{Code, Origin, Source}
 use Rattle.btools.specs.PlaceLines.{CodeText}
 use Rattle.bhost.specs.Statuses.{Loads, LoadsTelling, LineTold}
+use Rattle.bhost.specs.declared.calls.TheConstants.{UNREADY}
 use Rattle.bhost.specs.declared.host.Host.{Host}
 use Rattle.bembed.specs.Rooms.{Filled, Overflow, Room, Untouched, fresh, stream_of}
 use Rattle.bembed.specs.Wholes.{Whole}
@@ -15,6 +16,10 @@ use Rattle.bembed.specs.Wholes.{Whole}
 -- there is neither a program nor a run
 abbrev pub IsEmpty : Host → Type 0
 IsEmpty h = (h.read ≡ None) × (h.run ≡ None)
+
+-- A session isn't as the call wants it, and nothing was done.
+abbrev pub IsUnready : (old new : Host) → (status : ℕ) → Type 0
+IsUnready old new status = (new ≡ old) × (status ≡ UNREADY)
 
 -- the program of a source in the edition of a number, or of none
 abbrev pub LoadsSource : Option Edition → (source : List ℕ) → Host → (status : ℕ) → Type 0

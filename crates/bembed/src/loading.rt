@@ -1,8 +1,8 @@
 //! Loading a program, and telling why there is none.
-ghost use Rattle.std.specs.Prelude.{◌≡◌, ◌⊎◌, None, [], map, option_map};
+ghost use Rattle.std.specs.Prelude.{◌≡◌, ◌⊎◌, IsSome, None, [], map, option_map};
 ghost use Rattle.blang.specs.declared.status.TheConstants.{DONE};
-ghost use Rattle.bembed.specs.Rooms.{left_in};
-ghost use Rattle.bembed.specs.Sessions.{IsEmpty, LoadsText, LoadsWhole, given_in, text_given};
+ghost use Rattle.bembed.specs.Rooms.{Untouched, left_in};
+ghost use Rattle.bembed.specs.Sessions.{IsEmpty, IsUnready, LoadsText, LoadsWhole, given_in, text_given};
 ghost use Rattle.bembed.specs.WithFiles.{AskedWith, text_of};
 
 use crate::before::Before;
@@ -10,7 +10,7 @@ use crate::calls::stop;
 use crate::joined::{Joined, NamedFile};
 use crate::room::{Room, Written};
 use bhost::Host;
-use bhost::calls::{load_source, load_text};
+use bhost::calls::{UNREADY, load_source, load_text};
 use btools::CodeText;
 use std::alloc::Global;
 
@@ -25,12 +25,16 @@ pub extern "C" fn b_load_with(
     written: &mut Written,
     session: &mut Host,
 ) -> u8
-    requires { session.old.read ≡ None }
-    ensures loads { AskedWith edition source.now (map text_of files.now)
+    ensures loads { session.old.read ≡ None → AskedWith edition source.now (map text_of files.now)
         (left_in [] [] written.new.out) (left_in line.old line.new written.new.line) result
         (LoadsWhole session.new (left_in [] [] written.new.out) (left_in line.old line.new written.new.line) result) }
-    ensures loaded { IsEmpty session.new ⊎ (result ≡ DONE) }
+    ensures loaded { session.old.read ≡ None → IsEmpty session.new ⊎ (result ≡ DONE) }
+    ensures unready { IsSome session.old.read → IsUnready session.old session.new result
+        × Untouched (left_in [] [] written.new.out) × Untouched (left_in line.old line.new written.new.line) }
 {
+    if session.has_program() {
+        return stop(UNREADY, written);
+    }
     session.put(Host::none());
     let whole = match Joined::of(alloc, source, files, edition) {
         Ok(whole) => whole,
@@ -60,10 +64,14 @@ pub extern "C" fn b_load_code_with<'a>(
     written: &mut Written,
     session: &mut Host,
 ) -> u8
-    requires { session.old.read ≡ None }
-    ensures loads { LoadsText (text_given code.now lines.now names.now) session.new
+    ensures loads { session.old.read ≡ None → LoadsText (text_given code.now lines.now names.now) session.new
         (left_in [] [] written.new.out) (left_in line.old line.new written.new.line) result }
+    ensures unready { IsSome session.old.read → IsUnready session.old session.new result
+        × Untouched (left_in [] [] written.new.out) × Untouched (left_in line.old line.new written.new.line) }
 {
+    if session.has_program() {
+        return stop(UNREADY, written);
+    }
     written.out = 0;
     let before = Before::of(line);
     let mut line = Room::new(line, &before, &mut written.line);

@@ -1,17 +1,18 @@
 //! Sessions: programs that stay in memory, and their runs, in slices.
-ghost use Rattle.std.specs.Prelude.{◌≡◌, ◌≤◌, ⊤, ℕ, IsSome, List, None, [], drop, length, take};
-ghost use Rattle.bhost.specs.Deeds.{Acts};
+ghost use Rattle.std.specs.Prelude.{◌≡◌, ◌≤◌, ⊤, ℕ, IsSome, List, None, [], drop, false, length, take, true};
+ghost use Rattle.bhost.specs.Deeds.{ActsIfReady, is_ready};
 ghost use Rattle.bhost.specs.Statuses.{Answers, GoesTo, answer_callers, answer_column, answer_frame, answer_function, answer_line, answer_place, answer_steps, answer_value, answer_word, name_status};
 ghost use Rattle.bhost.specs.declared.desk.Answer.{Answer};
 ghost use Rattle.bhost.specs.declared.desk.Deed.TheVariants as deed;
 ghost use Rattle.bsession.specs.Stops.{stops_shown};
 ghost use Rattle.bembed.specs.Calls.{edition_of};
-ghost use Rattle.bembed.specs.Sessions.{LoadsCode, LoadsSource};
+ghost use Rattle.blang.specs.declared.status.TheConstants.{DONE};
+ghost use Rattle.bembed.specs.Sessions.{IsEmpty, IsUnready, LoadsCode, LoadsSource};
 
 use crate::calls::edition_of;
 use bhost::calls::{
-    Whereabouts, begin, close, column, copy, end, feed, forget, frame, go_on, go_to, limit, load,
-    look, name_of, read, store, swap, take, unload,
+    UNREADY, Whereabouts, begin, close, column, copy, end, feed, forget, frame, go_on, go_to,
+    limit, load, look, name_of, read, store, swap, take, unload,
 };
 use bhost::{Frame, Host};
 use blang::status;
@@ -22,9 +23,12 @@ use std::alloc::Global;
 /// Compiles a source, and puts its program in memory.
 #[unsafe(no_mangle)]
 pub extern "C" fn b_load(alloc: Global, source: &[u8], edition: u8, session: &mut Host) -> u8
-    requires { session.old.read ≡ None }
-    ensures { LoadsSource (edition_of edition) source.now session.new result }
+    ensures loads { session.old.read ≡ None → LoadsSource (edition_of edition) source.now session.new result }
+    ensures unready { IsSome session.old.read → IsUnready session.old session.new result }
 {
+    if session.has_program() {
+        return UNREADY;
+    }
     match edition_of(edition) {
         Some(edition) => load(alloc, source, Origin::Source(edition), session),
         None => {
@@ -37,9 +41,12 @@ pub extern "C" fn b_load(alloc: Global, source: &[u8], edition: u8, session: &mu
 /// Reads a code text, and puts its program in memory.
 #[unsafe(no_mangle)]
 pub extern "C" fn b_load_code(alloc: Global, code: &[u8], session: &mut Host) -> u8
-    requires { session.old.read ≡ None }
-    ensures { LoadsCode code.now session.new result }
+    ensures loads { session.old.read ≡ None → LoadsCode code.now session.new result }
+    ensures unready { IsSome session.old.read → IsUnready session.old session.new result }
 {
+    if session.has_program() {
+        return UNREADY;
+    }
     let text = CodeText {
         code,
         lines: None,
@@ -52,8 +59,6 @@ pub extern "C" fn b_load_code(alloc: Global, code: &[u8], session: &mut Host) ->
 /// Begins a run of the program.
 #[unsafe(no_mangle)]
 pub extern "C" fn b_begin(alloc: Global, session: &mut Host) -> u8
-    requires program { IsSome session.old.read }
-    requires no_run { session.old.run ≡ None }
     ensures program { session.new.read ≡ session.old.read }
     ensures begins { Answers deed.Begin [] session.old.read session.old.run session.new.run result (λ _ _. ⊤) }
 {
@@ -63,8 +68,6 @@ pub extern "C" fn b_begin(alloc: Global, session: &mut Host) -> u8
 /// Makes so many steps at most.
 #[unsafe(no_mangle)]
 pub extern "C" fn b_continue(alloc: Global, session: &mut Host, steps: u64, value: &mut u8) -> u8
-    requires program { IsSome session.old.read }
-    requires run { IsSome session.old.run }
     ensures program { session.new.read ≡ session.old.read }
     ensures goes { Answers (deed.Continue steps) [] session.old.read session.old.run session.new.run result
         (λ _ told. value.new ≡ answer_value told) }
@@ -81,8 +84,6 @@ pub extern "C" fn b_continue_to(
     steps: u64,
     value: &mut u8,
 ) -> u8
-    requires program { IsSome session.old.read }
-    requires run { IsSome session.old.run }
     ensures program { session.new.read ≡ session.old.read }
     ensures goes { GoesTo (stops_shown stops.now) steps session.old session.new result value.new }
 {
@@ -92,8 +93,6 @@ pub extern "C" fn b_continue_to(
 /// Tells of an active call: the running one has number 0, and the one that called it 1.
 #[unsafe(no_mangle)]
 pub extern "C" fn b_frame(alloc: Global, session: &mut Host, number: usize, told: &mut Frame) -> u8
-    requires program { IsSome session.old.read }
-    requires run { IsSome session.old.run }
     ensures program { session.new.read ≡ session.old.read }
     ensures tells { Answers (deed.Frame number) [] session.old.read session.old.run session.new.run result
         (λ _ answered. told.new ≡ answer_frame answered) }
@@ -110,8 +109,6 @@ pub extern "C" fn b_limit(
     pages: u16,
     output: usize,
 ) -> u8
-    requires program { IsSome session.old.read }
-    requires run { IsSome session.old.run }
     ensures program { session.new.read ≡ session.old.read }
     ensures limits { Answers (deed.Limit (record { operands = operands; pages = pages; output = output })) []
         session.old.read session.old.run session.new.run result (λ _ _. ⊤) }
@@ -127,8 +124,6 @@ pub extern "C" fn b_limit(
 /// Adds bytes to the input.
 #[unsafe(no_mangle)]
 pub extern "C" fn b_feed(alloc: Global, session: &mut Host, bytes: &[u8]) -> u8
-    requires program { IsSome session.old.read }
-    requires run { IsSome session.old.run }
     ensures program { session.new.read ≡ session.old.read }
     ensures feeds { Answers deed.Feed bytes.now session.old.read session.old.run session.new.run result (λ _ _. ⊤) }
 {
@@ -138,8 +133,6 @@ pub extern "C" fn b_feed(alloc: Global, session: &mut Host, bytes: &[u8]) -> u8
 /// Tells that no more input comes.
 #[unsafe(no_mangle)]
 pub extern "C" fn b_close_input(alloc: Global, session: &mut Host) -> u8
-    requires program { IsSome session.old.read }
-    requires run { IsSome session.old.run }
     ensures program { session.new.read ≡ session.old.read }
     ensures closes { Answers deed.Close [] session.old.read session.old.run session.new.run result (λ _ _. ⊤) }
 {
@@ -154,8 +147,6 @@ pub extern "C" fn b_output(
     room: &mut [u8],
     count: &mut usize,
 ) -> u8
-    requires program { IsSome session.old.read }
-    requires run { IsSome session.old.run }
     ensures program { session.new.read ≡ session.old.read }
     ensures takes { Answers (deed.Take (length room.old)) [] session.old.read session.old.run session.new.run result
         (λ after _. take count.new room.new ≡ take (length room.old) after) }
@@ -168,8 +159,6 @@ pub extern "C" fn b_output(
 /// Tells where the run stands.
 #[unsafe(no_mangle)]
 pub extern "C" fn b_place(alloc: Global, session: &mut Host, there: &mut Whereabouts) -> u8
-    requires program { IsSome session.old.read }
-    requires run { IsSome session.old.run }
     ensures program { session.new.read ≡ session.old.read }
     ensures looks { Answers deed.Look [] session.old.read session.old.run session.new.run result
         (λ _ told. (there.new.function ≡ answer_function told) × (there.new.place ≡ answer_place told)
@@ -182,8 +171,6 @@ pub extern "C" fn b_place(alloc: Global, session: &mut Host, there: &mut Whereab
 /// Tells the column of the place where the run stands.
 #[unsafe(no_mangle)]
 pub extern "C" fn b_column(alloc: Global, session: &mut Host, told: &mut u64) -> u8
-    requires program { IsSome session.old.read }
-    requires run { IsSome session.old.run }
     ensures program { session.new.read ≡ session.old.read }
     ensures looks { Answers deed.Look [] session.old.read session.old.run session.new.run result
         (λ _ answered. told.new ≡ answer_column answered) }
@@ -200,10 +187,9 @@ pub extern "C" fn b_name_of(
     room: &mut [u8],
     count: &mut usize,
 ) -> u8
-    requires program { IsSome session.old.read }
     ensures program { session.new.read ≡ session.old.read }
     ensures names { (name : List ℕ) × (told : Answer)
-        × Acts (deed.Name function) [] session.old.read session.old.run session.new.run name told
+        × ActsIfReady (deed.Name function) [] session.old.read session.old.run session.new.run name told
         × (take count.new room.new ≡ take (length room.old) name)
         × (result ≡ name_status (length room.old) name told) }
     ensures kept { drop count.new room.new ≡ drop count.new room.old }
@@ -215,8 +201,6 @@ pub extern "C" fn b_name_of(
 /// Tells the word at an address.
 #[unsafe(no_mangle)]
 pub extern "C" fn b_word(alloc: Global, session: &mut Host, address: u16, word: &mut u16) -> u8
-    requires program { IsSome session.old.read }
-    requires run { IsSome session.old.run }
     ensures program { session.new.read ≡ session.old.read }
     ensures reads { Answers (deed.Read address) [] session.old.read session.old.run session.new.run result
         (λ _ told. word.new ≡ answer_word told) }
@@ -227,8 +211,6 @@ pub extern "C" fn b_word(alloc: Global, session: &mut Host, address: u16, word: 
 /// Stores a word.
 #[unsafe(no_mangle)]
 pub extern "C" fn b_set_word(alloc: Global, session: &mut Host, address: u16, word: u16) -> u8
-    requires program { IsSome session.old.read }
-    requires run { IsSome session.old.run }
     ensures program { session.new.read ≡ session.old.read }
     ensures stores { Answers (deed.Store address word) [] session.old.read session.old.run session.new.run result (λ _ _. ⊤) }
 {
@@ -238,8 +220,6 @@ pub extern "C" fn b_set_word(alloc: Global, session: &mut Host, address: u16, wo
 /// Keeps a copy of the run.
 #[unsafe(no_mangle)]
 pub extern "C" fn b_copy(alloc: Global, session: &mut Host) -> u8
-    requires program { IsSome session.old.read }
-    requires run { IsSome session.old.run }
     ensures program { session.new.read ≡ session.old.read }
     ensures copies { Answers deed.Copy [] session.old.read session.old.run session.new.run result (λ _ _. ⊤) }
 {
@@ -249,8 +229,6 @@ pub extern "C" fn b_copy(alloc: Global, session: &mut Host) -> u8
 /// Goes on with the copy of a number, and keeps the run in its place.
 #[unsafe(no_mangle)]
 pub extern "C" fn b_swap(alloc: Global, session: &mut Host, number: usize) -> u8
-    requires program { IsSome session.old.read }
-    requires run { IsSome session.old.run }
     ensures program { session.new.read ≡ session.old.read }
     ensures swaps { Answers (deed.Swap number) [] session.old.read session.old.run session.new.run result (λ _ _. ⊤) }
 {
@@ -260,8 +238,6 @@ pub extern "C" fn b_swap(alloc: Global, session: &mut Host, number: usize) -> u8
 /// Lets go of the copy of a number.
 #[unsafe(no_mangle)]
 pub extern "C" fn b_forget(alloc: Global, session: &mut Host, number: usize) -> u8
-    requires program { IsSome session.old.read }
-    requires run { IsSome session.old.run }
     ensures program { session.new.read ≡ session.old.read }
     ensures forgets { Answers (deed.Forget number) [] session.old.read session.old.run session.new.run result (λ _ _. ⊤) }
 {
@@ -271,21 +247,19 @@ pub extern "C" fn b_forget(alloc: Global, session: &mut Host, number: usize) -> 
 /// Gives the run up, with its copies.
 #[unsafe(no_mangle)]
 pub extern "C" fn b_end(alloc: Global, session: &mut Host) -> u8
-    requires program { IsSome session.old.read }
-    requires run { IsSome session.old.run }
     ensures program { session.new.read ≡ session.old.read }
     ensures ends { Answers deed.End [] session.old.read session.old.run session.new.run result (λ _ _. ⊤) }
 {
     end(alloc, session)
 }
 
-/// Lets go of the program.
+/// Lets go of the program, where no run was begun.
 #[unsafe(no_mangle)]
-pub extern "C" fn b_unload(alloc: Global, session: &mut Host)
-    requires program { IsSome session.old.read }
-    requires no_run { session.old.run ≡ None }
-    ensures no_program { session.new.read ≡ None }
-    ensures no_run { session.new.run ≡ None }
+pub extern "C" fn b_unload(alloc: Global, session: &mut Host) -> u8
+    ensures unloads { is_ready deed.Begin session.old.read session.old.run ≡ true
+        → IsEmpty session.new × (result ≡ DONE) }
+    ensures unready { is_ready deed.Begin session.old.read session.old.run ≡ false
+        → IsUnready session.old session.new result }
 {
     unload(alloc, session)
 }

@@ -1,5 +1,5 @@
 //! What the names of a program in memory stand for.
-ghost use Rattle.std.specs.Prelude.{◌≡◌, IsSome, []};
+ghost use Rattle.std.specs.Prelude.{◌≡◌, []};
 ghost use Rattle.bword.specs.Words.{is_name};
 ghost use Rattle.bhost.specs.Statuses.{Answers, FindsName, answer_symbol};
 ghost use Rattle.bhost.specs.declared.desk.Deed.TheVariants as deed;
@@ -12,7 +12,6 @@ use std::alloc::Global;
 /// Tells what the definition of a name is.
 #[unsafe(no_mangle)]
 pub extern "C" fn b_find(alloc: Global, session: &mut Host, name: &[u8], told: &mut Symbol) -> u8
-    requires program { IsSome session.old.read }
     ensures program { session.new.read ≡ session.old.read }
     ensures finds { FindsName (is_name name.now) name.now session.old session.new result told.new }
 {
@@ -27,7 +26,6 @@ pub extern "C" fn b_symbol_at(
     address: u32,
     told: &mut Symbol,
 ) -> u8
-    requires program { IsSome session.old.read }
     ensures program { session.new.read ≡ session.old.read }
     ensures tells { Answers (deed.Tell (query.At address)) [] session.old.read session.old.run session.new.run result
         (λ _ answered. told.new ≡ answer_symbol answered) }
@@ -44,7 +42,6 @@ pub extern "C" fn b_local(
     number: usize,
     told: &mut Symbol,
 ) -> u8
-    requires program { IsSome session.old.read }
     ensures program { session.new.read ≡ session.old.read }
     ensures tells { Answers (deed.Tell (query.Local function number)) [] session.old.read session.old.run
         session.new.run result (λ _ answered. told.new ≡ answer_symbol answered) }
@@ -61,7 +58,6 @@ pub extern "C" fn b_label(
     number: usize,
     told: &mut Symbol,
 ) -> u8
-    requires program { IsSome session.old.read }
     ensures program { session.new.read ≡ session.old.read }
     ensures tells { Answers (deed.Tell (query.Label function number)) [] session.old.read session.old.run
         session.new.run result (λ _ answered. told.new ≡ answer_symbol answered) }
@@ -78,7 +74,6 @@ pub extern "C" fn b_instruction(
     place: u32,
     told: &mut Symbol,
 ) -> u8
-    requires program { IsSome session.old.read }
     ensures program { session.new.read ≡ session.old.read }
     ensures tells { Answers (deed.Tell (query.Instruction function place)) [] session.old.read session.old.run
         session.new.run result (λ _ answered. told.new ≡ answer_symbol answered) }

@@ -1,6 +1,6 @@
 -- Promise: what is done with a session that is held with its program.
 use Rattle.std.specs.Prelude.{◌≡◌, ◌≢◌, ◌⊎◌, ⊤, ℕ, ◌-◌, zero, suc, List, [], ◌++◌, drop, take, false, true, IsSome}
-use Rattle.std.specs.Prelude.{Option, slice_get}
+use Rattle.std.specs.Prelude.{Bool, Option, is_none, not, slice_get}
 use Rattle.std.specs.Prelude.{Some, None}
 use Rattle.bmach.specs.Stepping.{BeginsNot, ShowsFirst}
 use Rattle.bsession.specs.Sessions.{AsksForRoom, BeginsSession, GoesOnWithin, IsThere, KeepsLimits, SessionContinues, SessionView}
@@ -32,6 +32,18 @@ Allows deed.Begin run = run ≡ None
 Allows (deed.Name strings) run = ⊤
 Allows (deed.Tell query) run = ⊤
 Allows other run = IsSome run
+
+-- whether it is done where a run lacks, or where there is one
+abbrev pub allows : Deed → (lacks_run : Bool) → Bool
+allows deed.Begin lacks = lacks
+allows (deed.Name strings) lacks = true
+allows (deed.Tell query) lacks = true
+allows other lacks = not lacks
+
+-- there is a program, and such a run
+abbrev pub is_ready : Deed → Option LoadedValue → Option RunsView → Bool
+is_ready it None run = false
+is_ready it (Some loaded) run = allows it (is_none run)
 
 -- memory was refused, or the frame of the main function has no room
 abbrev pub LacksRoom : Outcome → Type 0
@@ -191,3 +203,13 @@ Acts (deed.Tell query) bytes (Some loaded) old new after told =
     (after ≡ bytes) × (new ≡ old) × (told ≡ symbol_told loaded query)
 Acts other bytes (Some loaded) old new after told = DoesBoth other loaded old new bytes after told
 Acts other bytes None old new after told = ⊥
+
+-- It is done where the session is ready, and else nothing is.
+abbrev pub ActsWhen : (ready : Bool) → Deed → (bytes : List ℕ) → Option LoadedValue → (old new : Option RunsView)
+    → (after : List ℕ) → Answer → Type 0
+ActsWhen true it bytes program old new after told = Acts it bytes program old new after told
+ActsWhen false it bytes program old new after told = (new ≡ old) × (after ≡ bytes) × (told ≡ answer.Unready)
+
+abbrev pub ActsIfReady : Deed → (bytes : List ℕ) → Option LoadedValue → (old new : Option RunsView) → (after : List ℕ)
+    → Answer → Type 0
+ActsIfReady it bytes program old new after told = ActsWhen (is_ready it program old) it bytes program old new after told

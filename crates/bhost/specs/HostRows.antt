@@ -20,8 +20,8 @@ use Rattle.bsession.specs.declared.session.Limits.{Limits}
 use Rattle.bsession.specs.declared.session.SliceEnd.TheVariants as end
 use Rattle.bsession.specs.declared.session.StopEnd.TheVariants as stop_end
 use Rattle.btools.specs.declared.program.ProgramFault.TheVariants as fault
-use Rattle.bhost.specs.Deeds.{Acts, Begins, Does, DoesWith, IsFed, IsStored, NamesFunction, IsTaken, frame_in, frame_of}
-use Rattle.bhost.specs.Deeds.{stands_with, word_told}
+use Rattle.bhost.specs.Deeds.{Acts, ActsIfReady, Begins, Does, DoesWith, IsFed, IsStored, NamesFunction, IsTaken}
+use Rattle.bhost.specs.Deeds.{allows, frame_in, frame_of, stands_with, word_told}
 use Rattle.bhost.specs.Hosts.{LoadedValue}
 use Rattle.bhost.specs.Runs.{IsCopied, RunsView, copy_told, swapped, without}
 use Rattle.bhost.specs.Statuses.{answer_callers, answer_frame, answer_column, answer_function, answer_line, answer_place}
@@ -29,6 +29,7 @@ use Rattle.bhost.specs.Statuses.{answer_status, answer_steps, answer_value, answ
 use Rattle.bhost.specs.Statuses.{trap_number}
 use Rattle.bhost.specs.declared.desk.Answer.{Answer}
 use Rattle.bhost.specs.declared.desk.Answer.TheVariants as answer
+use Rattle.bhost.specs.declared.desk.Deed.{Deed}
 use Rattle.bhost.specs.declared.desk.Deed.TheVariants as deed
 use Rattle.bhost.specs.declared.desk.Frame.{Frame}
 
@@ -55,6 +56,36 @@ not_begun begun = begun
 
 not_ended : Acts deed.End [] None (Some alone) None [] answer.Done → ⊥
 not_ended ended = ended
+
+-- what is done where a run lacks, and where there is one
+where_none : map (λ (it : Deed). allows it true) (deed.Begin ∷ deed.Continue 1 ∷ deed.Limit none ∷ deed.Feed
+    ∷ deed.Close ∷ deed.Take 1 ∷ deed.Look ∷ deed.Frame 0 ∷ deed.Read 7 ∷ deed.Store 7 1 ∷ deed.Name 8 ∷ deed.Copy ∷ deed.Swap 0
+    ∷ deed.Forget 0 ∷ deed.End ∷ [])
+    ≡ (true ∷ false ∷ false ∷ false ∷ false ∷ false ∷ false ∷ false ∷ false ∷ false ∷ true ∷ false ∷ false ∷ false
+    ∷ false ∷ [])
+where_none = refl
+
+where_one : map (λ (it : Deed). allows it false) (deed.Begin ∷ deed.Continue 1 ∷ deed.Limit none ∷ deed.Feed
+    ∷ deed.Close ∷ deed.Take 1 ∷ deed.Look ∷ deed.Frame 0 ∷ deed.Read 7 ∷ deed.Store 7 1 ∷ deed.Name 8 ∷ deed.Copy ∷ deed.Swap 0
+    ∷ deed.Forget 0 ∷ deed.End ∷ [])
+    ≡ (false ∷ true ∷ true ∷ true ∷ true ∷ true ∷ true ∷ true ∷ true ∷ true ∷ true ∷ true ∷ true ∷ true ∷ true ∷ [])
+where_one = refl
+
+-- nothing is done without a program, nor does a run begin in the place of another one, and that is told
+not_without : ActsIfReady deed.End [] None (Some alone) None [] answer.Unready → ⊥
+not_without tried = let same = tried.0 in cc
+
+none_lost : (loaded : LoadedValue) → ActsIfReady deed.Begin [] (Some loaded) (Some alone) None [] answer.Unready → ⊥
+none_lost loaded tried = let same = tried.0 in cc
+
+unready_told : (loaded : LoadedValue)
+    → ActsIfReady deed.Begin [] (Some loaded) (Some alone) (Some alone) [] answer.Done → ⊥
+unready_told loaded tried = let told = tried.2 in cc
+
+-- what can be done is done
+ready_ends : (loaded : LoadedValue)
+    → ActsIfReady deed.End [] (Some loaded) (Some alone) (Some alone) [] answer.Unready → ⊥
+ready_ends loaded tried = let told = tried.2 in cc
 
 -- a run that doesn't begin is over by no other trap than that its first frame has no room, and by no other end
 no_other_trap : (image : Image) (kind : Trap) → Begins image None (answer.Unbegun (outcome.Trap kind)) → kind ≡ trap.NoRoom
@@ -193,8 +224,8 @@ statuses : map answer_status (answer.Done ∷ answer.Ended (end.Halted 9) ∷ an
     ∷ answer.Ended end.Limit ∷ answer.Ended end.WantsInput ∷ answer.Ended (end.Holds held.Output)
     ∷ answer.Ended (end.Holds held.Operands) ∷ answer.Ended (end.Holds held.Pages) ∷ answer.Ended end.Memory
     ∷ answer.Unbegun outcome.Memory ∷ answer.Unbegun (outcome.Trap trap.NotAFunction) ∷ answer.Closed
-    ∷ answer.Missing ∷ answer.Refused ∷ answer.Word 9 ∷ [])
-    ≡ (0 ∷ 0 ∷ 130 ∷ 131 ∷ 133 ∷ 136 ∷ 137 ∷ 137 ∷ 134 ∷ 134 ∷ 130 ∷ 135 ∷ 132 ∷ 134 ∷ 0 ∷ [])
+    ∷ answer.Missing ∷ answer.Unready ∷ answer.Refused ∷ answer.Word 9 ∷ [])
+    ≡ (0 ∷ 0 ∷ 130 ∷ 131 ∷ 133 ∷ 136 ∷ 137 ∷ 137 ∷ 134 ∷ 134 ∷ 130 ∷ 135 ∷ 132 ∷ 142 ∷ 134 ∷ 0 ∷ [])
 statuses = refl
 
 values : map answer_value (answer.Ended (end.Halted 0) ∷ answer.Ended (end.Halted 9) ∷ answer.Ended (end.Halted 255)

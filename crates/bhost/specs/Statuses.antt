@@ -16,12 +16,12 @@ use Rattle.blang.specs.declared.token.Diagnostic.{Diagnostic}
 use Rattle.btools.specs.Origins.{ColumnsOf, HasNoProgramOf, IsProgramOf, LinesOf, NamesOf, NoProgramOf, Origin}
 use Rattle.btools.specs.declared.program.ProgramFault.{ProgramFault}
 use Rattle.btools.specs.declared.program.ProgramFault.TheVariants as fault
-use Rattle.bhost.specs.Deeds.{Acts, stop_set}
+use Rattle.bhost.specs.Deeds.{ActsIfReady, stop_set}
 use Rattle.bsession.specs.Stops.{StopSet}
 use Rattle.bhost.specs.Hosts.{LoadedValue}
 use Rattle.bhost.specs.Runs.{RunsView}
 use Rattle.bhost.specs.Symbols.{blank}
-use Rattle.bhost.specs.declared.calls.TheConstants.{HAS_OUTPUT, STOPPED, TOO_LARGE}
+use Rattle.bhost.specs.declared.calls.TheConstants.{HAS_OUTPUT, STOPPED, TOO_LARGE, UNREADY}
 use Rattle.bhost.specs.declared.desk.Answer.{Answer}
 use Rattle.bhost.specs.declared.desk.Answer.TheVariants as answer
 use Rattle.bhost.specs.declared.desk.Deed.{Deed}
@@ -121,6 +121,7 @@ answer_status (answer.Walked why) = walk_status why
 answer_status (answer.Unbegun why) = begin_status why
 answer_status answer.Closed = WRONG_COMMAND
 answer_status answer.Missing = REFUSED
+answer_status answer.Unready = UNREADY
 answer_status answer.Refused = MEMORY
 answer_status (answer.Stands there) = DONE
 answer_status (answer.Calls frame) = DONE
@@ -179,12 +180,13 @@ answer_symbol other = blank
 abbrev pub name_status : (size : ℕ) → (name : List ℕ) → Answer → ℕ
 name_status size name told = if nat_lt size (length name) then DEVICE else answer_status told
 
--- A deed with these bytes is done, and the status tells its answer. `P` holds of the bytes after it, and of the answer.
+-- A deed with these bytes is done, or the session isn't ready for it, and the status tells its answer. `P` holds of the
+-- bytes after it, and of the answer.
 abbrev pub Answers : Deed → (bytes : List ℕ) → Option LoadedValue → (old new : Option RunsView) → (status : ℕ)
     → (List ℕ → Answer → Type 0) → Type 0
 Answers deed bytes program old new status P =
-    (after : List ℕ) × (told : Answer) × Acts deed bytes program old new after told × (status ≡ answer_status told)
-    × P after told
+    (after : List ℕ) × (told : Answer) × ActsIfReady deed bytes program old new after told
+    × (status ≡ answer_status told) × P after told
 
 -- there is a place or a word among them
 abbrev pub HasSome : StopSet → Type 0

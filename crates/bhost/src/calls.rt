@@ -1,10 +1,11 @@
 //! Calls for a session with its program, which tell a status.
-ghost use Rattle.std.specs.Prelude.{◌≡◌, ◌≢◌, ◌≤◌, ⊤, ℕ, IfOk, IsSome, OnErr, List, MatchResult, None, [], drop, length, take};
-ghost use Rattle.bhost.specs.Deeds.{Acts, stop_set};
+ghost use Rattle.std.specs.Prelude.{◌≡◌, ◌≢◌, ◌≤◌, ⊤, ℕ, IfOk, List, MatchResult, None, OnErr, [], drop, false, length, take, true};
+ghost use Rattle.bhost.specs.Deeds.{ActsIfReady, is_ready, stop_set};
 ghost use Rattle.bhost.specs.Statuses.{Answers, FindsName, GoesTo, HasSome, HoldsProgramOf, Loads, LoadsTelling, answer_callers, answer_column, answer_frame, answer_function, answer_line, answer_place, answer_status, answer_steps, answer_symbol, answer_value, answer_word, end_status, end_value, fault_status, held_number, name_status, trap_number, unfed_status};
 ghost use Rattle.bhost.specs.declared.desk.Answer.{Answer};
 ghost use Rattle.bhost.specs.declared.desk.Deed.TheVariants as deed;
 ghost use Rattle.blang.specs.Compiles.{line_of};
+ghost use Rattle.blang.specs.declared.status.TheConstants.{DONE};
 ghost use Rattle.bsession.specs.Stops.{stops_shown};
 ghost use Rattle.bword.specs.Words.{is_name};
 ghost use Rattle.bsources.specs.Files.{files_shown};
@@ -29,6 +30,8 @@ pub const HAS_OUTPUT: Status = 136;
 pub const TOO_LARGE: Status = 137;
 /// A slice ends before a step at which it was to stop.
 pub const STOPPED: Status = 138;
+/// There is no program, or no run where one is wanted, or one where none is.
+pub const UNREADY: Status = 142;
 
 /// Where a run stands, as a call tells it.
 #[repr(C)]
@@ -153,8 +156,6 @@ fn fault_status(fault: &ProgramFault) -> Status
 
 /// Begins a run.
 pub fn begin(alloc: Global, host: &mut Host) -> Status
-    requires program { IsSome host.old.read }
-    requires no_run { host.old.run ≡ None }
     ensures program { host.new.read ≡ host.old.read }
     ensures begins { Answers deed.Begin [] host.old.read host.old.run host.new.run result (λ _ _. ⊤) }
 {
@@ -165,8 +166,6 @@ pub fn begin(alloc: Global, host: &mut Host) -> Status
 /// Makes so many steps at most, and tells beside the status that of a program which has halted, the number of a trap, or
 /// that of what is too large.
 pub fn go_on(alloc: Global, host: &mut Host, steps: u64, value: &mut u8) -> Status
-    requires program { IsSome host.old.read }
-    requires run { IsSome host.old.run }
     ensures program { host.new.read ≡ host.old.read }
     ensures goes { Answers (deed.Continue steps) [] host.old.read host.old.run host.new.run result
         (λ _ told. value.new ≡ answer_value told) }
@@ -179,8 +178,6 @@ pub fn go_on(alloc: Global, host: &mut Host, steps: u64, value: &mut u8) -> Stat
 /// Makes so many steps at most, up to the first one before which it stops. Where memory is refused for the stops, nothing
 /// is done.
 pub fn go_to(alloc: Global, host: &mut Host, stops: Stops<'_>, steps: u64, value: &mut u8) -> Status
-    requires program { IsSome host.old.read }
-    requires run { IsSome host.old.run }
     ensures program { host.new.read ≡ host.old.read }
     ensures goes { GoesTo (stops_shown stops.entry) steps host.old host.new result value.new }
 {
@@ -216,8 +213,6 @@ fn listed(alloc: Global, stops: Stops<'_>) -> Result<StopList, AllocError>
 
 /// Tells of an active call: the running one has number 0, and the one that called it 1.
 pub fn frame(alloc: Global, host: &mut Host, number: usize, told: &mut Frame) -> Status
-    requires program { IsSome host.old.read }
-    requires run { IsSome host.old.run }
     ensures program { host.new.read ≡ host.old.read }
     ensures tells { Answers (deed.Frame number) [] host.old.read host.old.run host.new.run result
         (λ _ answered. told.new ≡ answer_frame answered) }
@@ -239,8 +234,6 @@ pub fn frame(alloc: Global, host: &mut Host, number: usize, told: &mut Frame) ->
 
 /// Sets how much the run may hold.
 pub fn limit(alloc: Global, host: &mut Host, limits: Limits) -> Status
-    requires program { IsSome host.old.read }
-    requires run { IsSome host.old.run }
     ensures program { host.new.read ≡ host.old.read }
     ensures limits { Answers (deed.Limit limits) [] host.old.read host.old.run host.new.run result (λ _ _. ⊤) }
 {
@@ -250,8 +243,6 @@ pub fn limit(alloc: Global, host: &mut Host, limits: Limits) -> Status
 
 /// Adds bytes to the input.
 pub fn feed(alloc: Global, host: &mut Host, bytes: &[u8]) -> Status
-    requires program { IsSome host.old.read }
-    requires run { IsSome host.old.run }
     ensures program { host.new.read ≡ host.old.read }
     ensures feeds { Answers deed.Feed bytes.now host.old.read host.old.run host.new.run result (λ _ _. ⊤) }
 {
@@ -265,8 +256,6 @@ pub fn feed(alloc: Global, host: &mut Host, bytes: &[u8]) -> Status
 
 // Adds no bytes, for want of memory, unless the input is closed.
 fn feed_nothing(alloc: Global, host: &mut Host) -> Status
-    requires program { IsSome host.old.read }
-    requires run { IsSome host.old.run }
     ensures program { host.new.read ≡ host.old.read }
     ensures feeds { (bytes : List ℕ) → bytes ≢ []
         → Answers deed.Feed bytes host.old.read host.old.run host.new.run result (λ _ _. ⊤) }
@@ -287,8 +276,6 @@ fn unfed_status(answer: Answer) -> Status
 
 /// Tells that no more bytes come.
 pub fn close(alloc: Global, host: &mut Host) -> Status
-    requires program { IsSome host.old.read }
-    requires run { IsSome host.old.run }
     ensures program { host.new.read ≡ host.old.read }
     ensures closes { Answers deed.Close [] host.old.read host.old.run host.new.run result (λ _ _. ⊤) }
 {
@@ -298,8 +285,6 @@ pub fn close(alloc: Global, host: &mut Host) -> Status
 
 /// Takes as much of the output as there is room for, and tells how much.
 pub fn take(alloc: Global, host: &mut Host, room: &mut [u8], count: &mut usize) -> Status
-    requires program { IsSome host.old.read }
-    requires run { IsSome host.old.run }
     ensures program { host.new.read ≡ host.old.read }
     ensures takes { Answers (deed.Take (length room.old)) [] host.old.read host.old.run host.new.run result
         (λ after _. take count.new room.new ≡ take (length room.old) after) }
@@ -330,10 +315,9 @@ pub fn name_of(
     room: &mut [u8],
     count: &mut usize,
 ) -> Status
-    requires program { IsSome host.old.read }
     ensures program { host.new.read ≡ host.old.read }
     ensures names { (name : List ℕ) × (told : Answer)
-        × Acts (deed.Name strings) [] host.old.read host.old.run host.new.run name told
+        × ActsIfReady (deed.Name strings) [] host.old.read host.old.run host.new.run name told
         × (take count.new room.new ≡ take (length room.old) name)
         × (result ≡ name_status (length room.old) name told) }
     ensures kept { drop count.new room.new ≡ drop count.new room.old }
@@ -351,7 +335,6 @@ pub fn name_of(
 
 /// Tells what a name stands for, or an address, or a place.
 pub fn tell(alloc: Global, host: &mut Host, query: Query, told: &mut Symbol) -> Status
-    requires program { IsSome host.old.read }
     ensures program { host.new.read ≡ host.old.read }
     ensures tells { Answers (deed.Tell query) [] host.old.read host.old.run host.new.run result
         (λ _ answered. told.new ≡ answer_symbol answered) }
@@ -366,7 +349,6 @@ pub fn tell(alloc: Global, host: &mut Host, query: Query, told: &mut Symbol) -> 
 
 /// Tells what the definition of a name is, if the text is a name.
 pub fn find(alloc: Global, host: &mut Host, text: &[u8], told: &mut Symbol) -> Status
-    requires program { IsSome host.old.read }
     ensures program { host.new.read ≡ host.old.read }
     ensures finds { FindsName (is_name text.now) text.now host.old host.new result told.new }
 {
@@ -381,8 +363,6 @@ pub fn find(alloc: Global, host: &mut Host, text: &[u8], told: &mut Symbol) -> S
 
 /// Tells where the run stands.
 pub fn look(alloc: Global, host: &mut Host, there: &mut Whereabouts) -> Status
-    requires program { IsSome host.old.read }
-    requires run { IsSome host.old.run }
     ensures program { host.new.read ≡ host.old.read }
     ensures looks { Answers deed.Look [] host.old.read host.old.run host.new.run result
         (λ _ told. (there.new.function ≡ answer_function told) × (there.new.place ≡ answer_place told)
@@ -411,8 +391,6 @@ pub fn look(alloc: Global, host: &mut Host, there: &mut Whereabouts) -> Status
 
 /// Tells the column of the place where the run stands, or 0 where none is known.
 pub fn column(alloc: Global, host: &mut Host, column: &mut u64) -> Status
-    requires program { IsSome host.old.read }
-    requires run { IsSome host.old.run }
     ensures program { host.new.read ≡ host.old.read }
     ensures looks { Answers deed.Look [] host.old.read host.old.run host.new.run result
         (λ _ told. column.new ≡ answer_column told) }
@@ -427,8 +405,6 @@ pub fn column(alloc: Global, host: &mut Host, column: &mut u64) -> Status
 
 /// Tells the word at an address.
 pub fn read(alloc: Global, host: &mut Host, address: u16, word: &mut u16) -> Status
-    requires program { IsSome host.old.read }
-    requires run { IsSome host.old.run }
     ensures program { host.new.read ≡ host.old.read }
     ensures reads { Answers (deed.Read address) [] host.old.read host.old.run host.new.run result
         (λ _ told. word.new ≡ answer_word told) }
@@ -443,8 +419,6 @@ pub fn read(alloc: Global, host: &mut Host, address: u16, word: &mut u16) -> Sta
 
 /// Stores a word.
 pub fn store(alloc: Global, host: &mut Host, address: u16, word: u16) -> Status
-    requires program { IsSome host.old.read }
-    requires run { IsSome host.old.run }
     ensures program { host.new.read ≡ host.old.read }
     ensures stores { Answers (deed.Store address word) [] host.old.read host.old.run host.new.run result (λ _ _. ⊤) }
 {
@@ -454,8 +428,6 @@ pub fn store(alloc: Global, host: &mut Host, address: u16, word: u16) -> Status
 
 /// Keeps a copy of the run as it stands. It has the next number, from 0 on.
 pub fn copy(alloc: Global, host: &mut Host) -> Status
-    requires program { IsSome host.old.read }
-    requires run { IsSome host.old.run }
     ensures program { host.new.read ≡ host.old.read }
     ensures copies { Answers deed.Copy [] host.old.read host.old.run host.new.run result (λ _ _. ⊤) }
 {
@@ -465,8 +437,6 @@ pub fn copy(alloc: Global, host: &mut Host) -> Status
 
 /// Goes on with the copy of a number, and keeps the run in its place.
 pub fn swap(alloc: Global, host: &mut Host, number: usize) -> Status
-    requires program { IsSome host.old.read }
-    requires run { IsSome host.old.run }
     ensures program { host.new.read ≡ host.old.read }
     ensures swaps { Answers (deed.Swap number) [] host.old.read host.old.run host.new.run result (λ _ _. ⊤) }
 {
@@ -476,8 +446,6 @@ pub fn swap(alloc: Global, host: &mut Host, number: usize) -> Status
 
 /// Lets go of the copy of a number. Those after it have a number less.
 pub fn forget(alloc: Global, host: &mut Host, number: usize) -> Status
-    requires program { IsSome host.old.read }
-    requires run { IsSome host.old.run }
     ensures program { host.new.read ≡ host.old.read }
     ensures forgets { Answers (deed.Forget number) [] host.old.read host.old.run host.new.run result (λ _ _. ⊤) }
 {
@@ -487,8 +455,6 @@ pub fn forget(alloc: Global, host: &mut Host, number: usize) -> Status
 
 /// Gives the run up, with its copies.
 pub fn end(alloc: Global, host: &mut Host) -> Status
-    requires program { IsSome host.old.read }
-    requires run { IsSome host.old.run }
     ensures program { host.new.read ≡ host.old.read }
     ensures ends { Answers deed.End [] host.old.read host.old.run host.new.run result (λ _ _. ⊤) }
 {
@@ -496,15 +462,20 @@ pub fn end(alloc: Global, host: &mut Host) -> Status
     status_of(desk.answer)
 }
 
-/// Lets go of the program.
-pub fn unload(alloc: Global, host: &mut Host)
-    requires program { IsSome host.old.read }
-    requires no_run { host.old.run ≡ None }
-    ensures no_program { host.new.read ≡ None }
-    ensures no_run { host.new.run ≡ None }
+/// Lets go of the program, where no run was begun.
+pub fn unload(alloc: Global, host: &mut Host) -> Status
+    ensures unloads { is_ready deed.Begin host.old.read host.old.run ≡ true
+        → (host.new.read ≡ None) × (host.new.run ≡ None) × (result ≡ DONE) }
+    ensures unready { is_ready deed.Begin host.old.read host.old.run ≡ false
+        → (host.new ≡ host.old) × (result ≡ UNREADY) }
+    ensures gone { result ≡ DONE → host.new.read ≡ None }
 {
+    if !host.is_ready(&Deed::Begin) {
+        return UNREADY;
+    }
     let held = mem::replace(host, Host::none());
     drop(held.into_program(alloc));
+    status::DONE
 }
 
 // The status of an answer.
@@ -520,6 +491,7 @@ fn status_of(answer: Answer) -> Status
         Answer::Unbegun(_) => status::TRAP,
         Answer::Closed => status::WRONG_COMMAND,
         Answer::Missing => status::REFUSED,
+        Answer::Unready => UNREADY,
         Answer::Refused => status::MEMORY,
     }
 }

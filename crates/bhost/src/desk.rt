@@ -143,6 +143,8 @@ pub enum Answer {
     Closed,
     /// There is no such name, no function lies there, or there are not so many calls.
     Missing,
+    /// There is no program, or no run where one is wanted, or one where none is; and nothing was done.
+    Unready,
     /// Memory was refused, and nothing was done; or it was refused before, and the session is lost.
     Refused,
     /// The run stands there.

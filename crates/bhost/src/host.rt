@@ -1,6 +1,6 @@
 //! A session together with its program.
-ghost use Rattle.std.specs.Prelude.{◌≡◌, IsSome, None, Option, Some};
-ghost use Rattle.bhost.specs.Deeds.{Acts, Allows};
+ghost use Rattle.std.specs.Prelude.{◌≡◌, IsSome, None, Option, Some, is_none, is_some};
+ghost use Rattle.bhost.specs.Deeds.{Acts, ActsIfReady, Allows, allows, is_ready};
 ghost use Rattle.bhost.specs.Hosts.{host_owns, session_coded, loaded_coded, LoadedValue, SessionValue};
 
 use crate::acting::act_on;
@@ -71,6 +71,38 @@ impl Host {
         (Host { session, program }, desk)
     }
 
+    // The same, and whether it lacks a program, and a run if it has one.
+    fn lacking(self) -> (Host, bool, bool)
+        ensures same { result.0 ≡ self }
+        ensures program { result.1 ≡ is_none self.read }
+        ensures run { IsSome self.read → result.2 ≡ is_none self.run }
+    {
+        let Host { session, program } = self;
+        let lacks_program = program.is_null();
+        let lacks_run = session.is_null();
+        (Host { session, program }, lacks_program, lacks_run)
+    }
+
+    /// Whether it has a program, and a run or none, as is wanted where this is done.
+    pub fn is_ready(&mut self, deed: &Deed) -> bool
+        ensures same { self.new ≡ self.old }
+        ensures ready { result ≡ is_ready deed.now self.old.read self.old.run }
+    {
+        let (host, lacks_program, lacks_run) = mem::replace(self, Host::none()).lacking();
+        self.put(host);
+        !lacks_program && allows(deed, lacks_run)
+    }
+
+    /// Whether it has a program.
+    pub fn has_program(&mut self) -> bool
+        ensures same { self.new ≡ self.old }
+        ensures has { result ≡ is_some self.old.read }
+    {
+        let (host, lacks_program, _) = mem::replace(self, Host::none()).lacking();
+        self.put(host);
+        !lacks_program
+    }
+
     // The program of one without a session.
     pub(crate) fn untie(self, alloc: Global) -> Place<LoadedProgram, Global>
         requires no_run { self.run ≡ None }
@@ -85,20 +117,23 @@ impl Host {
         Place { at, alloc }
     }
 
-    /// Does this, with these bytes on the desk, and tells what came of it.
+    /// Does this, with these bytes on the desk, and tells what came of it; or does nothing, since there is no program,
+    /// or no run where one is wanted, or one where none is.
     pub fn ask(&mut self, alloc: Global, deed: Deed, bytes: Vec<u8>) -> Desk
-        requires program { IsSome self.old.read }
-        requires allowed { Allows deed self.old.run }
         ensures program { self.new.read ≡ self.old.read }
-        ensures acts { Acts deed bytes.items self.old.read self.old.run self.new.run result.bytes.items result.answer }
+        ensures acts { ActsIfReady deed bytes.items self.old.read self.old.run self.new.run result.bytes.items
+            result.answer }
     {
-        let answer = Answer::Done;
+        let is_ready = self.is_ready(&deed);
         let desk = Desk {
             alloc,
             deed,
             bytes,
-            answer,
+            answer: Answer::Unready,
         };
+        if !is_ready {
+            return desk;
+        }
         let host = mem::replace(self, Host::none());
         let (host, desk) = host.act(alloc, desk);
         self.put(host);
@@ -137,5 +172,16 @@ impl Host {
         requires program { IsSome self.read }
     {
         self.untie(alloc).into_box()
+    }
+}
+
+// Whether something is done where a run lacks, or where there is one.
+fn allows(deed: &Deed, lacks_run: bool) -> bool
+    ensures { result ≡ allows deed.now lacks_run }
+{
+    match deed {
+        Deed::Begin => lacks_run,
+        Deed::Name(_) | Deed::Tell(_) => true,
+        _ => !lacks_run,
     }
 }

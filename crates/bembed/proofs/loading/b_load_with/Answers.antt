@@ -6,7 +6,7 @@ use Rattle.bembed.proofs.Over.{loads_into}
 use Rattle.bembed.proofs.loading.b_load_with.Goals as goal
 
 pub returns-clause-loads : goal.returns-clause-loads
-returns-clause-loads c = done c.in-Ok.whole c.in-Ok.ensures.ok (record {
+returns-clause-loads c none = done c.in-Ok.whole c.in-Ok.ensures.ok (record {
   no_output = record { same = refl; none = search rules };
   loads = loads_into (Source c.in-Ok.whole.edition) c.in-Ok.whole.text c.load_source.new.host (fault_lines c.in-Ok.whole.files)
       c.new-line.result c.load_source.new.diag _ _

@@ -1,5 +1,5 @@
 use Rattle.std.proofs.Common.{ℕ, List, inr, subst}
-use Rattle.bhost.specs.Deeds.{Acts}
+use Rattle.bhost.specs.Deeds.{ActsIfReady}
 use Rattle.bhost.specs.declared.desk.Deed.TheVariants as deed
 use Rattle.bhost.proofs.calls.go_to.Goals as goal
 
@@ -9,7 +9,7 @@ returns-clause-goes c =
     let old = c.args.host.now in
     let new = c.ask-desk.new.self in
     let acts =
-    subst (λ (bytes : List ℕ). Acts (deed.ContinueTo c.in-Ok.list c.args.steps) bytes old.read old.run new.run desk.bytes.items desk.answer)
+    subst (λ (bytes : List ℕ). ActsIfReady (deed.ContinueTo c.in-Ok.list c.args.steps) bytes old.read old.run new.run desk.bytes.items desk.answer)
     c.new.ensures.items c.ask-desk.ensures.acts in
     inr (
       c.in-Ok.list,
