@@ -1,5 +1,5 @@
 -- Closed facts: what is no answer of a session that is held with its program, and the statuses of all answers.
-use Rattle.std.specs.Prelude.{◌≡◌, ℕ, ◌+◌, [], ◌∷◌, map, false, true, None, Option, Some, get_or, length, refl}
+use Rattle.std.specs.Prelude.{◌≡◌, ℕ, ◌+◌, List, [], ◌∷◌, map, false, true, None, Option, Some, get_or, length, refl}
 use Rattle.std.specs.Prelude.{slice_get}
 use Rattle.std.specs.Prelude.{slice_index}
 use Rattle.std.proofs.Common.{◌∙◌, ap, arith, inl, inr, sym}
@@ -21,7 +21,7 @@ use Rattle.bsession.specs.declared.session.SliceEnd.TheVariants as end
 use Rattle.bsession.specs.declared.session.StopEnd.TheVariants as stop_end
 use Rattle.btools.specs.declared.program.ProgramFault.TheVariants as fault
 use Rattle.bhost.specs.Deeds.{Acts, ActsIfReady, Begins, Does, DoesWith, IsFed, IsStored, NamesFunction, IsTaken}
-use Rattle.bhost.specs.Deeds.{allows, frame_in, frame_of, stands_with, word_told}
+use Rattle.bhost.specs.Deeds.{allows, frame_in, frame_of, is_ready, stands_with, word_told}
 use Rattle.bhost.specs.Hosts.{LoadedValue}
 use Rattle.bhost.specs.Runs.{IsCopied, RunsView, copy_told, swapped, without}
 use Rattle.bhost.specs.Statuses.{answer_callers, answer_frame, answer_column, answer_function, answer_line, answer_place}
@@ -32,6 +32,8 @@ use Rattle.bhost.specs.declared.desk.Answer.TheVariants as answer
 use Rattle.bhost.specs.declared.desk.Deed.{Deed}
 use Rattle.bhost.specs.declared.desk.Deed.TheVariants as deed
 use Rattle.bhost.specs.declared.desk.Frame.{Frame}
+use Rattle.bhost.specs.declared.desk.Query.{Query}
+use Rattle.bhost.specs.declared.desk.StopList.{StopList}
 
 abbrev none : Limits
 none = record { operands = 0; pages = 0; output = 0 }
@@ -58,18 +60,25 @@ not_ended : Acts deed.End [] None (Some alone) None [] answer.Done → ⊥
 not_ended ended = ended
 
 -- what is done where a run lacks, and where there is one
-where_none : map (λ (it : Deed). allows it true) (deed.Begin ∷ deed.Continue 1 ∷ deed.Limit none ∷ deed.Feed
-    ∷ deed.Close ∷ deed.Take 1 ∷ deed.Look ∷ deed.Frame 0 ∷ deed.Read 7 ∷ deed.Store 7 1 ∷ deed.Name 8 ∷ deed.Copy ∷ deed.Swap 0
-    ∷ deed.Forget 0 ∷ deed.End ∷ [])
-    ≡ (true ∷ false ∷ false ∷ false ∷ false ∷ false ∷ false ∷ false ∷ false ∷ false ∷ true ∷ false ∷ false ∷ false
-    ∷ false ∷ [])
-where_none = refl
+abbrev all_deeds : StopList → Query → List Deed
+all_deeds stops query =
+    deed.Begin ∷ deed.Continue 1 ∷ deed.ContinueTo stops 1 ∷ deed.Limit none ∷ deed.Feed ∷ deed.Close ∷ deed.Take 1
+    ∷ deed.Look ∷ deed.Frame 0 ∷ deed.Read 7 ∷ deed.Store 7 1 ∷ deed.Name 8 ∷ deed.Tell query ∷ deed.Copy ∷ deed.Swap 0
+    ∷ deed.Forget 0 ∷ deed.End ∷ []
 
-where_one : map (λ (it : Deed). allows it false) (deed.Begin ∷ deed.Continue 1 ∷ deed.Limit none ∷ deed.Feed
-    ∷ deed.Close ∷ deed.Take 1 ∷ deed.Look ∷ deed.Frame 0 ∷ deed.Read 7 ∷ deed.Store 7 1 ∷ deed.Name 8 ∷ deed.Copy ∷ deed.Swap 0
-    ∷ deed.Forget 0 ∷ deed.End ∷ [])
-    ≡ (false ∷ true ∷ true ∷ true ∷ true ∷ true ∷ true ∷ true ∷ true ∷ true ∷ true ∷ true ∷ true ∷ true ∷ true ∷ [])
-where_one = refl
+where_none : (stops : StopList) (query : Query) → map (λ (it : Deed). allows it true) (all_deeds stops query)
+    ≡ (true ∷ false ∷ false ∷ false ∷ false ∷ false ∷ false ∷ false ∷ false ∷ false ∷ false ∷ true ∷ true ∷ false
+    ∷ false ∷ false ∷ false ∷ [])
+where_none stops query = refl
+
+where_one : (stops : StopList) (query : Query) → map (λ (it : Deed). allows it false) (all_deeds stops query)
+    ≡ (false ∷ true ∷ true ∷ true ∷ true ∷ true ∷ true ∷ true ∷ true ∷ true ∷ true ∷ true ∷ true ∷ true ∷ true ∷ true
+    ∷ true ∷ [])
+where_one stops query = refl
+
+no_program : (loaded : LoadedValue) → map (λ program. is_ready deed.Begin program None) (None ∷ Some loaded ∷ [])
+    ≡ (false ∷ true ∷ [])
+no_program loaded = refl
 
 -- nothing is done without a program, nor does a run begin in the place of another one, and that is told
 not_without : ActsIfReady deed.End [] None (Some alone) None [] answer.Unready → ⊥
@@ -77,6 +86,9 @@ not_without tried = let same = tried.0 in cc
 
 none_lost : (loaded : LoadedValue) → ActsIfReady deed.Begin [] (Some loaded) (Some alone) None [] answer.Unready → ⊥
 none_lost loaded tried = let same = tried.0 in cc
+
+nothing_put : ActsIfReady (deed.Take 1) [] None None None (6 ∷ []) answer.Unready → ⊥
+nothing_put tried = let stay = tried.1 in cc
 
 unready_told : (loaded : LoadedValue)
     → ActsIfReady deed.Begin [] (Some loaded) (Some alone) (Some alone) [] answer.Done → ⊥
@@ -203,18 +215,20 @@ frame_told = record { strings = 5; place = 6; start = 90; parameters = 1; line =
 told_frame : answer_frame (answer.Calls frame_told) ≡ frame_told
 told_frame = refl
 
-no_frame : answer_frame told ≡ record { strings = 0; place = 0; start = 0; parameters = 0; line = 0; column = 0 }
+abbrev nowhere : Frame
+nowhere = record { strings = 0; place = 0; start = 0; parameters = 0; line = 0; column = 0 }
+
+no_frame : map answer_frame (told ∷ answer.Unready ∷ []) ≡ (nowhere ∷ nowhere ∷ [])
 no_frame = refl
 
-parts : map (λ (f : Answer → ℕ). f told) (answer_function ∷ answer_place ∷ answer_callers ∷ answer_steps ∷ answer_line
-    ∷ answer_column ∷ answer_word ∷ answer_value ∷ answer_status ∷ [])
-    ≡ (5 ∷ 6 ∷ 7 ∷ 8 ∷ 11 ∷ 95 ∷ 0 ∷ 0 ∷ 0 ∷ [])
-parts = refl
-
-no_parts : map (λ (f : Answer → ℕ). f (answer.Word 3)) (answer_function ∷ answer_place ∷ answer_callers ∷ answer_steps
+abbrev parts_of : Answer → List ℕ
+parts_of it = map (λ (f : Answer → ℕ). f it) (answer_function ∷ answer_place ∷ answer_callers ∷ answer_steps
     ∷ answer_line ∷ answer_column ∷ answer_word ∷ answer_value ∷ answer_status ∷ [])
-    ≡ (0 ∷ 0 ∷ 0 ∷ 0 ∷ 0 ∷ 0 ∷ 3 ∷ 0 ∷ 0 ∷ [])
-no_parts = refl
+
+parts : map parts_of (told ∷ answer.Word 3 ∷ answer.Unready ∷ [])
+    ≡ ((5 ∷ 6 ∷ 7 ∷ 8 ∷ 11 ∷ 95 ∷ 0 ∷ 0 ∷ 0 ∷ []) ∷ (0 ∷ 0 ∷ 0 ∷ 0 ∷ 0 ∷ 0 ∷ 3 ∷ 0 ∷ 0 ∷ [])
+    ∷ (0 ∷ 0 ∷ 0 ∷ 0 ∷ 0 ∷ 0 ∷ 0 ∷ 0 ∷ 142 ∷ []) ∷ [])
+parts = refl
 
 words : map word_told (None ∷ Some 0 ∷ Some 65535 ∷ []) ≡ (answer.Refused ∷ answer.Word 0 ∷ answer.Word 65535 ∷ [])
 words = refl
@@ -224,8 +238,8 @@ statuses : map answer_status (answer.Done ∷ answer.Ended (end.Halted 9) ∷ an
     ∷ answer.Ended end.Limit ∷ answer.Ended end.WantsInput ∷ answer.Ended (end.Holds held.Output)
     ∷ answer.Ended (end.Holds held.Operands) ∷ answer.Ended (end.Holds held.Pages) ∷ answer.Ended end.Memory
     ∷ answer.Unbegun outcome.Memory ∷ answer.Unbegun (outcome.Trap trap.NotAFunction) ∷ answer.Closed
-    ∷ answer.Missing ∷ answer.Unready ∷ answer.Refused ∷ answer.Word 9 ∷ [])
-    ≡ (0 ∷ 0 ∷ 130 ∷ 131 ∷ 133 ∷ 136 ∷ 137 ∷ 137 ∷ 134 ∷ 134 ∷ 130 ∷ 135 ∷ 132 ∷ 142 ∷ 134 ∷ 0 ∷ [])
+    ∷ answer.Missing ∷ answer.Refused ∷ answer.Word 9 ∷ [])
+    ≡ (0 ∷ 0 ∷ 130 ∷ 131 ∷ 133 ∷ 136 ∷ 137 ∷ 137 ∷ 134 ∷ 134 ∷ 130 ∷ 135 ∷ 132 ∷ 134 ∷ 0 ∷ [])
 statuses = refl
 
 values : map answer_value (answer.Ended (end.Halted 0) ∷ answer.Ended (end.Halted 9) ∷ answer.Ended (end.Halted 255)

@@ -1,8 +1,7 @@
 -- `lacking` compares the two pointers with null.
 use Rattle.core.specs.Prelude.{IsSome, is_none}
-use Rattle.std.proofs.Common.{◌≡◌, List, [], ◌∷◌, ◌++◌, ℕ, refl, sym, subst, lit<}
+use Rattle.std.proofs.Common.{◌≡◌, List, [], ◌∷◌, ◌++◌, refl, sym, subst, lit<}
 use mathlib.Core.Bool.{Bool, true, false, ◌&&◌}
-use lib.Dec.{T}
 use mir.Syntax.{ty_ptr, ptr_eq}
 use mir.Val.{Val, vstruct, vcons, vnil, of_list, has_ty, vbool, vnull, op2_val}
 use base.Logic.{SProp, ent, emp, guard_i, id⊢}
