@@ -8,6 +8,7 @@ use Rattle.blang.specs.declared.code.Definition.{Definition}
 use Rattle.blang.specs.Layout.{data_end, shape_of, spot_after, spots, store_words}
 use Rattle.bmach.proofs.Spots.{length-spots_after, spots_after-push, zip-push}
 use Rattle.bmach.specs.declared.machine.Active.{Active}
+use Rattle.bshow.specs.declared.seen.SeenStep.{SeenStep}
 use Rattle.bshow.specs.Facts.{all_addresses, call_text, definition_text, spot_text}
 
 -- the texts of definitions, with one more
@@ -50,5 +51,5 @@ unfolding all_addresses
 all_are n e = ap (range_with_len 0) e
 
 -- one row more
-pub one_row : (start text new row : List ℕ) (rest : List (List ℕ)) → text ++ flat_map (λ r. r) (row ∷ rest) ≡ start → new ≡ text ++ row → new ++ flat_map (λ r. r) rest ≡ start
-one_row start text new row rest before one = ap (λ t. t ++ flat_map (λ (r : List ℕ). r) rest) one ∙ append_assoc text row (flat_map (λ (r : List ℕ). r) rest) ∙ before
+pub one_row : (cells : SeenStep → List ℕ) (start text new : List ℕ) (step : SeenStep) (rest : List SeenStep) → text ++ flat_map cells (step ∷ rest) ≡ start → new ≡ text ++ cells step → new ++ flat_map cells rest ≡ start
+one_row cells start text new step rest before one = ap (λ t. t ++ flat_map cells rest) one ∙ append_assoc text (cells step) (flat_map cells rest) ∙ before

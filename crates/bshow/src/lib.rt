@@ -9,6 +9,7 @@ mod page;
 mod parts;
 mod recorder;
 mod rows;
+mod seen;
 mod showing;
 
 pub use careful::{show_careful, wrong_careful_pages_are_excluded};

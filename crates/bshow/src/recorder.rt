@@ -1,27 +1,27 @@
 //! Who looks on at a run and keeps its page.
-ghost use Rattle.std.specs.Prelude.{◌≡◌, ◌+◌, ◌-◌, ◌%◌, ◌<◌, ◌^◌, ◌++◌, ◌∷◌, [], IfOk, OnOk, drop, option_map};
-ghost use Rattle.std.specs.Prelude.{reverse, slice_index, if◌then◌else◌};
-ghost use Rattle.std.specs.List.{flat_map, range_with_len};
-ghost use Rattle.bwatch.specs.Trails.{trail_text};
+ghost use Rattle.std.specs.Prelude.{◌≡◌, ◌+◌, ◌%◌, ◌<◌, ◌^◌, ◌++◌, ◌∷◌, [], IfOk, OnOk, drop, option_map};
+ghost use Rattle.std.specs.Prelude.{reverse, if◌then◌else◌};
+ghost use Rattle.bwatch.specs.Sights.{sight_at};
 ghost use Rattle.bshow.specs.Facts.{sentence};
 ghost use Rattle.bshow.specs.Rows.{table_code};
 ghost use Rattle.bshow.specs.Shows.{head, last_facts, said_text, tail};
-ghost use Rattle.bshow.specs.Steps.{Awaits, EndsRows, FollowsCalls, HasSeen, HasTold, KeepsLast, may_show, next_row};
+ghost use Rattle.bshow.specs.Steps.{Awaits, EndsRows, FollowsCalls, HasSeen, HasTold, KeepsIf, idle_cells, may_show};
+ghost use Rattle.bshow.specs.Steps.{next_row, whole_rows};
 
 use crate::ending::push_sentence;
 use crate::facts::push_run;
 use crate::page::{BETWEEN, HEAD, SCRIPT};
 use crate::parts::push_end;
-use crate::rows::{calls_getchar, operand, push_call, push_done, words_in};
+use crate::rows::{calls_getchar, operand};
+use crate::seen::{KeptRows, SeenStep, push_steps};
 use bendless::Repeat;
 use blang::Outcome;
 use bmach::{Active, Stepper, Stop};
 use btools::{Tables, Text};
-use bwatch::{Onlooker, TraceRows, Trail};
+use bwatch::{Onlooker, TraceRows};
 use bword::Store;
 use std::alloc::{AllocError, Global};
 use std::collections::VecDeque;
-use std::ops::Range;
 
 /// What is kept of a run for its page.
 #[derive(Drop)]
@@ -31,8 +31,7 @@ pub struct Recorder<'a, 'b> {
     which: TraceRows,
     /// What the page tells of the program.
     program: Text,
-    /// The head of the page, and its rows; in the end the page.
-    pub trail: Trail,
+    pub rows: KeptRows,
     /// The calls below the running one, the nearest last, before the step after so many.
     calls: Vec<Active>,
     calls_at: u64,
@@ -42,13 +41,11 @@ pub struct Recorder<'a, 'b> {
     // Whether the step that is being made has a row, and whether it calls `getchar`.
     shows: bool,
     hears: bool,
-    // The addresses of the words that it stores, if it has a row and the run goes on, and the words there.
-    stored: Range<u32>,
-    before: Vec<u16>,
 }
 
 impl<'a, 'b> Recorder<'a, 'b> {
     /// No step was made yet.
+    #[tactic(auto, unfolding(crate::specs::Shows::head))]
     pub fn new(
         alloc: Global,
         tables: &'a Tables<'b>,
@@ -58,25 +55,29 @@ impl<'a, 'b> Recorder<'a, 'b> {
         ensures tables { IfOk result (λ r. r.tables.now ≡ tables.now) }
         ensures which { IfOk result (λ r. r.which ≡ which) }
         ensures program { IfOk result (λ r. r.program ≡ program) }
-        ensures trail { IfOk result (λ r. (r.trail.text ≡ head) × (r.trail.last.items ≡ []) × (r.trail.row ≡ [])) }
+        ensures rows { IfOk result (λ r. (r.rows.page ≡ head) × (r.rows.last.items ≡ [])) }
         ensures calls { IfOk result (λ r. (r.calls.items ≡ []) × (r.calls_at ≡ 0)) }
         ensures heard { IfOk result (λ r. r.heard ≡ []) }
         ensures output { IfOk result (λ r. r.output ≡ []) }
     {
+        let mut page = Text::new(alloc);
+        page.push(HEAD)?;
         Ok(Recorder {
             alloc,
             tables,
             which,
             program,
-            trail: Trail::new(alloc, HEAD)?,
+            rows: KeptRows {
+                page,
+                last: VecDeque::new(alloc),
+                step: SeenStep::new(alloc),
+            },
             calls: Vec::new(alloc),
             calls_at: 0,
             heard: Text::new(alloc),
             output: Text::new(alloc),
             shows: false,
             hears: false,
-            stored: 0..0,
-            before: Vec::new(alloc),
         })
     }
 }
@@ -89,10 +90,10 @@ impl Recorder<'_, '_> {
         finding: Option<&[u8]>,
         again: Option<Repeat>,
     ) -> Result<(), AllocError>
-        ensures { OnOk result (self.new.trail.text ≡ self.old.trail.text
+        ensures { OnOk result (self.new.rows.page ≡ self.old.rows.page
             ++ last_facts (table_code tables.now) (option_map (λ t. t.now) finding.entry) again ++ tail) }
     {
-        push_end(&mut self.trail.text, tables, finding, again)
+        push_end(&mut self.rows.page, tables, finding, again)
     }
 }
 
@@ -110,12 +111,11 @@ impl<'a, 'b> Onlooker for Recorder<'a, 'b> {
     ) -> Result<(), AllocError> {
         self.shows = may_show(self.which, made);
         self.hears = calls_getchar(self.tables, stepper);
-        if !self.shows {
-            return Ok(());
+        if self.shows {
+            self.rows.step.see(stepper, made)
+        } else {
+            Ok(())
         }
-        self.stored = stepper.stored();
-        self.before = words_in(self.alloc, stepper, &self.stored)?;
-        push_call(&mut self.trail.row, self.tables, stepper, made)
     }
 
     fn after<S: Store + Drop>(
@@ -132,16 +132,9 @@ impl<'a, 'b> Onlooker for Recorder<'a, 'b> {
         if !self.shows {
             return Ok(());
         }
-        let after = words_in(self.alloc, stepper, &self.stored)?;
-        push_done(
-            &mut self.trail.row,
-            first_of(&self.stored),
-            self.before.as_slice(),
-            after.as_slice(),
-            since(self.heard.as_slice(), heard),
-            written,
-        )?;
-        self.trail.keep(self.alloc, self.which)
+        let read = since(self.heard.as_slice(), heard);
+        self.rows.step.did(stepper, read, written)?;
+        self.rows.keep(self.alloc, self.tables, self.which)
     }
 
     fn end<S: Store + Drop>(
@@ -149,18 +142,16 @@ impl<'a, 'b> Onlooker for Recorder<'a, 'b> {
         stepper: &Stepper<'_, S>,
         stop: Stop,
     ) -> Result<(), AllocError> {
-        let shows = self.shows;
         end_rows(
             self.alloc,
-            &mut self.trail,
+            &mut self.rows,
             self.tables,
             self.which,
-            shows,
+            self.shows,
             stepper,
             stop,
         )?;
-        gather(&mut self.trail)?;
-        let page = &mut self.trail.text;
+        let page = &mut self.rows.page;
         push_said(page, stop, self.program.as_slice())?;
         push_run(
             page,
@@ -219,80 +210,59 @@ fn since(bytes: &[u8], before: usize) -> &[u8]
     &bytes[before.min(bytes.len())..]
 }
 
-// The first of these addresses, or 0 where there is none.
-fn first_of(addresses: &Range<u32>) -> u32
-    ensures { result ≡ slice_index (range_with_len addresses.now.start (addresses.now.end - addresses.now.start)) 0 }
-{
-    if addresses.start < addresses.end {
-        addresses.start
-    } else {
-        0
-    }
-}
-
-// Ends the rows: with that of the step by which the run is over, or with the call before the next one.
+// Spells the last rows, with that of the step by which the run is over, or with the call before the next one.
 fn end_rows<S: Store + Drop>(
     alloc: Global,
-    trail: &mut Trail,
+    rows: &mut KeptRows,
     tables: &Tables<'_>,
     which: TraceRows,
     shows: bool,
     stepper: &Stepper<'_, S>,
     stop: Stop,
 ) -> Result<(), AllocError>
-    ensures { OnOk result (EndsRows (table_code tables.now) which shows stepper.now stop.outcome stop.steps trail.old
-        trail.new) }
+    ensures { OnOk result (EndsRows (table_code tables.now) which shows stepper.now stop.outcome stop.steps rows.old
+        rows.new) }
 {
     match stop.outcome {
-        Outcome::Limit => push_next(&mut trail.row, tables, stepper, stop.steps),
-        _ => keep_last(alloc, trail, which, shows),
+        Outcome::Limit => push_next(rows, tables, stepper, stop.steps),
+        _ => {
+            keep_idle(alloc, rows, tables, which, shows)?;
+            push_steps(&mut rows.page, &rows.last, tables)
+        }
     }
 }
 
 fn push_next<S: Store + Drop>(
-    row: &mut Text,
+    rows: &mut KeptRows,
     tables: &Tables<'_>,
     stepper: &Stepper<'_, S>,
     made: u64,
 ) -> Result<(), AllocError>
-    ensures { OnOk result (row.new ≡ row.old ++ next_row (table_code tables.now) (made + 1) stepper.now) }
+    ensures { OnOk result (rows.new.page ≡ whole_rows (table_code tables.now) rows.old
+        ++ next_row (table_code tables.now) (made + 1) (sight_at stepper.now [])) }
 {
-    push_call(row, tables, stepper, made)?;
-    row.push(b"</tr>\n")
+    push_steps(&mut rows.page, &rows.last, tables)?;
+    rows.step.see(stepper, made)?;
+    rows.step.push_call(&mut rows.page, tables)?;
+    rows.page.push(b"</tr>\n")
 }
 
-// The step by which a run is over has stored, read and written nothing.
-fn keep_last(
+// Keeps the step by which a run is over. It has stored, read and written nothing.
+fn keep_idle(
     alloc: Global,
-    trail: &mut Trail,
+    rows: &mut KeptRows,
+    tables: &Tables<'_>,
     which: TraceRows,
     shows: bool,
 ) -> Result<(), AllocError>
-    ensures { OnOk result (KeepsLast shows which trail.old trail.new) }
+    ensures { OnOk result (KeepsIf (table_code tables.now) shows which
+        (idle_cells (table_code tables.now) rows.old.step) rows.old rows.new) }
 {
     if !shows {
         return Ok(());
     }
-    push_done(&mut trail.row, 0, &[], &[], &[], &[])?;
-    trail.keep(alloc, which)
-}
-
-// Makes one text of all that is kept.
-fn gather(trail: &mut Trail) -> Result<(), AllocError>
-    ensures { OnOk result (trail.new.text ≡ trail_text trail.old) }
-{
-    push_rows(&mut trail.text, &trail.last)?;
-    trail.text.push(trail.row.as_slice())
-}
-
-#[tactic(auto, using(crate::proofs::FactParts::one_row))]
-fn push_rows(page: &mut Text, rows: &VecDeque<Text>) -> Result<(), AllocError>
-    ensures { OnOk result (page.new ≡ page.old ++ flat_map (λ row. row) rows.now.items) }
-{
-    for row in rows {
-        page.push(row.as_slice())?;
-    }
-    Ok(())
+    rows.step.did_nothing();
+    rows.keep(alloc, tables, which)
 }
 
 // What stands between the rows of a run and its facts.

@@ -1,49 +1,25 @@
 //! The rows of a page: the machine before a step, and what the step did.
-ghost use Rattle.std.specs.Prelude.{◌≡◌, ◌≤◌, ◌+◌, ◌-◌, ◌++◌, IfOk, OnOk, length, slice_index};
+ghost use Rattle.std.specs.Prelude.{◌≡◌, ◌≤◌, ◌+◌, ◌-◌, ◌++◌, OnOk, slice_index};
 ghost use Rattle.std.specs.List.{range_with_len};
 ghost use Rattle.bmach.specs.Stops.{active_of};
 ghost use Rattle.btools.specs.Columns.{instr_text};
-ghost use Rattle.bshow.specs.Rows.{call_cells, done_cells, instr_of, is_getchar, number_cell, other_text};
+ghost use Rattle.bshow.specs.Rows.{done_cells, instr_of, is_getchar, number_cell, other_text};
 ghost use Rattle.bshow.specs.Rows.{others_text, table_code, text_cell, words_cell, words_in};
 
 use crate::escapes::push_escaped;
 use bcode::{Page, push_instr_line};
 use blang::Instr;
 use bmach::Stepper;
-use btools::{Tables, Text, instr_at, name_of, push_signed};
+use btools::{Tables, Text, instr_at, push_signed};
 use bword::Store;
-use std::alloc::{AllocError, Global};
+use std::alloc::AllocError;
 use std::ops::Range;
 
 /// The value of the function `getchar`.
 const GETCHAR: u16 = 3;
 
-/// Adds the cells that tell the machine before the step after so many.
-pub fn push_call<S: Store + Drop>(
-    text: &mut Text,
-    tables: &Tables<'_>,
-    stepper: &Stepper<'_, S>,
-    made: u64,
-) -> Result<(), AllocError>
-    ensures { OnOk result (text.new ≡ text.old ++ call_cells (table_code tables.now) (made + 1)
-        (active_of stepper.now.call) stepper.now.call.operands (length stepper.now.below)) }
-{
-    let call = stepper.top();
-    let entry = tables.entry(call.strings);
-    let line = tables.line(entry, call.place);
-    text.push(b"<tr>")?;
-    push_step_cell(text, made)?;
-    push_text_cell(text, name_of(entry))?;
-    push_number_cell(text, call.place as u64)?;
-    push_number_cell(text, line)?;
-    push_code_cell(text, instr_at(entry, call.place))?;
-    push_words_cell(text, stepper.operands())?;
-    push_number_cell(text, stepper.callers() as u64)?;
-    push_number_cell(text, u64::from(call.start))
-}
-
-// The number of the step after so many. It may be the first one that has no room in a word.
-fn push_step_cell(text: &mut Text, made: u64) -> Result<(), AllocError>
+/// The number of the step after so many. It may be the first one that has no room in a word.
+pub fn push_step_cell(text: &mut Text, made: u64) -> Result<(), AllocError>
     ensures { OnOk result (text.new ≡ text.old ++ number_cell (made + 1)) }
 {
     match made.checked_add(1) {
@@ -52,22 +28,24 @@ fn push_step_cell(text: &mut Text, made: u64) -> Result<(), AllocError>
     }
 }
 
-fn push_number_cell(text: &mut Text, number: u64) -> Result<(), AllocError>
+/// A cell with a number.
+pub fn push_number_cell(text: &mut Text, number: u64) -> Result<(), AllocError>
     ensures { OnOk result (text.new ≡ text.old ++ number_cell number) }
 {
     text.push(b"<td>")?;
     text.push_number(number)
 }
 
-fn push_text_cell(text: &mut Text, bytes: &[u8]) -> Result<(), AllocError>
+/// A cell with a text.
+pub fn push_text_cell(text: &mut Text, bytes: &[u8]) -> Result<(), AllocError>
     ensures { OnOk result (text.new ≡ text.old ++ text_cell bytes.now) }
 {
     text.push(b"<td>")?;
     push_escaped(text, bytes)
 }
 
-// An instruction as the code text has it.
-fn push_code_cell(text: &mut Text, instr: Option<Instr>) -> Result<(), AllocError>
+/// An instruction as the code text has it.
+pub fn push_code_cell(text: &mut Text, instr: Option<Instr>) -> Result<(), AllocError>
     ensures { OnOk result (text.new ≡ text.old ++ text_cell (instr_text instr)) }
 {
     let mut page = Page::new();
@@ -78,8 +56,8 @@ fn push_code_cell(text: &mut Text, instr: Option<Instr>) -> Result<(), AllocErro
     push_text_cell(text, &line[..line.len().saturating_sub(1)])
 }
 
-// Words as an array of signed numbers.
-fn push_words_cell(text: &mut Text, words: &[u16]) -> Result<(), AllocError>
+/// Words as an array of signed numbers.
+pub fn push_words_cell(text: &mut Text, words: &[u16]) -> Result<(), AllocError>
     ensures { OnOk result (text.new ≡ text.old ++ words_cell words.now) }
 {
     match words.split_first() {
@@ -109,21 +87,19 @@ fn push_other(text: &mut Text, word: u16) -> Result<(), AllocError>
     push_signed(text, word)
 }
 
-/// The words at these addresses.
-pub fn words_in<S: Store + Drop>(
-    alloc: Global,
+/// Adds the words at these addresses.
+pub fn push_words<S: Store + Drop>(
+    words: &mut Vec<u16>,
     stepper: &Stepper<'_, S>,
     addresses: &Range<u32>,
-) -> Result<Vec<u16>, AllocError>
-    ensures { IfOk result (λ words. addresses.now.end ≤ 65536
-        → words.items ≡ words_in stepper.now.store
+) -> Result<(), AllocError>
+    ensures { OnOk result (addresses.now.end ≤ 65536 → words.new.items ≡ words.old.items ++ words_in stepper.now.store
         (range_with_len addresses.now.start (addresses.now.end - addresses.now.start))) }
 {
-    let mut words = Vec::new(alloc);
     for address in addresses.start..addresses.end {
         words.push(stepper.word((address % 65536) as u16))?;
     }
-    Ok(words)
+    Ok(())
 }
 
 /// Adds the cells that tell what a step did, and ends the row.

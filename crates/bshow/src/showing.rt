@@ -99,7 +99,7 @@ pub fn show<I: ByteIn, O: ByteOut, D: ByteOut>(
     let Ok(()) = recorder.push_end(&tables, wanted.finding, again) else {
         return status::MEMORY;
     };
-    tell(recorder.trail.text.as_slice(), status::DONE, out)
+    tell(recorder.rows.page.as_slice(), status::DONE, out)
 }
 
 // What a page tells of the program.

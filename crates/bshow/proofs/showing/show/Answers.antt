@@ -41,7 +41,7 @@ watch_recorded-requires-clause-loaded g c =
 
 pub watch_recorded-requires-clause-begins : goal.watch_recorded-requires-clause-begins
 watch_recorded-requires-clause-begins g c =
-    none_seen c.in-Ok-new-2.recorder c.in-Ok-new-2.ensures.trail c.in-Ok-new-2.ensures.calls c.in-Ok-new-2.ensures.heard c.in-Ok-new-2.ensures.output
+    none_seen c.in-Ok-new-2.recorder c.in-Ok-new-2.ensures.rows c.in-Ok-new-2.ensures.calls c.in-Ok-new-2.ensures.heard c.in-Ok-new-2.ensures.output
 
 pub returns-in_default-clause-shows : goal.returns-in_default-clause-shows
 returns-in_default-clause-shows g c =
@@ -94,7 +94,7 @@ returns-clause-shows g c =
     let program = c.in-Ok.program in
     let ds = program.definitions.items in
     let stop = c.in-Ended.stop in
-    let page = c.push_end.new.self.trail.text in
+    let page = c.push_end.new.self.rows.page in
     let code = lined_code ds program.names.lines.items in
     let first = c.in-Ok-new-2.recorder in
     let again = c.repeat_of-again in
@@ -107,4 +107,4 @@ returns-clause-shows g c =
     (paged ds c.args.wanted.steps _ _ stop.outcome c.in_default-outcome.not-Device stop.steps first last code c.args.wanted.rows
     (program_text (files_shown c.args.wanted.files) c.args.source.now c.args.wanted.given.now ds program.names.frames.items) (last_facts code found again.result) page
     (ap table_code c.in-Ok-new-2.ensures.tables ∙ same) c.in-Ok-new-2.ensures.which
-    (c.in-Ok-new-2.ensures.program ∙ c.in-Ok-program_text.ensures) (c.in-Ok-push_end.ensures ∙ ap (λ x. last.trail.text ++ last_facts x found again.result ++ tail) same) w) told
+    (c.in-Ok-new-2.ensures.program ∙ c.in-Ok-program_text.ensures) (c.in-Ok-push_end.ensures ∙ ap (λ x. last.rows.page ++ last_facts x found again.result ++ tail) same) w) told
