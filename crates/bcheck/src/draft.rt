@@ -13,7 +13,7 @@ use bword::Name;
 use std::alloc::{AllocError, AllocFailed, Global};
 
 /// Why a mend goes no further: it doesn't fit what stands there, or memory ran out.
-#[derive(Debug, Drop)]
+#[derive(Drop)]
 pub(crate) enum Stop {
     Unfit,
     Memory,
